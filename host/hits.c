@@ -1,7 +1,8 @@
 /* SPDX-License-Identifier: Apache-2.0 */
 /* Pages that hit, by single calls of pinpool.h: hits PLANS runs so many plans of a thousand hits each, by one thread that needs no lock. A hit
-** is a fix, a latch S, a look at 8 bytes, and both taken back: two calls. With a second word each step has a call of its own: four, and one to
-** read. For what a hit costs, count the instructions of two runs, and divide by the hits that one has more. */
+** is a fix, a latch S, a look at 8 bytes, and both taken back: two calls. With `lent` behind PLANS the bytes are read where they lie: a call more,
+** which tells where. With `steps` each step has a call of its own: four, and one to read. For what a hit costs, count the instructions of two
+** runs, and divide by the hits that one has more. */
 #include "pinpool.h"
 #include <stdio.h>
 #include <stdlib.h>
@@ -13,6 +14,7 @@ static const char text[] = "{\"version\":1,\"body\":[{\"loop\":1000,\"body\":["
     "{\"fix\":\"a\",\"region\":\"pages\"},{\"latch\":\"a\",\"mode\":\"S\"},{\"unlatch\":\"a\"},{\"unfix\":\"a\"}]}]}";
 static pinpool pool = PINPOOL_NONE;
 static uint8_t image[4096];
+static int is_lent, by_steps;
 
 static void see(pinpool_answer answer) {
     if (answer == PINPOOL_DONE) return;
@@ -20,8 +22,19 @@ static void see(pinpool_answer answer) {
     exit(1);
 }
 
+/* Fixes and latches a page by one call, and reads its number where it lies. Tells whether that went. */
+static int get_lent(uint64_t ticket, uint32_t page, uint64_t *number, pinpool_ask *ask, pinpool_told *told) {
+    const uint32_t slot = ask->slot;
+    pinpool_lent lent;
+    if (pinpool_get(&pool, ticket, page, 0, image, 0, ask, told) != PINPOOL_DONE) return 0;
+    see(pinpool_lend(&pool, ticket, slot, &lent));
+    memcpy(number, lent.bytes, sizeof *number);
+    return 1;
+}
+
 /* Begins or ends a reading by one call, where that goes. Tells whether it did. */
 static int at_once(uint64_t ticket, uint32_t page, uint64_t *number, pinpool_ask *ask, pinpool_told *told) {
+    if (ask->step == PINPOOL_FIX && is_lent) return get_lent(ticket, page, number, ask, told);
     if (ask->step == PINPOOL_FIX)
         return pinpool_get(&pool, ticket, page, 0, (uint8_t *)number, sizeof *number, ask, told) == PINPOOL_DONE;
     *number = 0;
@@ -29,7 +42,7 @@ static int at_once(uint64_t ticket, uint32_t page, uint64_t *number, pinpool_ask
 }
 
 /* Runs a plan, and gives the sum of what it has read. */
-static uint64_t run(uint32_t plan, int by_steps) {
+static uint64_t run(uint32_t plan) {
     uint64_t ticket, number, sum = 0;
     uint32_t page = 0, step, slot;
     pinpool_ask ask;
@@ -66,9 +79,11 @@ int main(int count, char **words) {
     pinpool_stats stats;
     uint64_t sum = 0;
     int plans = count > 1 ? atoi(words[1]) : 1000;
+    is_lent = count > 2 && !strcmp(words[2], "lent");
+    by_steps = count > 2 && !is_lent;
     see(pinpool_open(&pool, (const uint8_t *)settings, sizeof settings - 1, &policy, &fault));
     see(pinpool_prepare_alone(&pool, (const uint8_t *)text, sizeof text - 1, &plan, &fault, &told));
-    for (int i = 0; i < plans; i++) sum += run(plan.plan, count > 2);
+    for (int i = 0; i < plans; i++) sum += run(plan.plan);
     see(pinpool_stats_of(&pool, &stats));
     see(pinpool_close(&pool));
     printf("%llu hits, %llu misses, sum %llu\n", (unsigned long long)stats.hits, (unsigned long long)stats.misses, (unsigned long long)sum);

@@ -48,7 +48,7 @@ public:
     virtual std::uint32_t page(const pinpool_ask &ask) = 0;
     // The branch to take, below ask.count. PINPOOL_NOBODY gives the plan up.
     virtual std::uint32_t branch(const pinpool_ask &) { return PINPOOL_NOBODY; }
-    // ask.page in ask.slot is latched S, and the body can be read until it is unlatched.
+    // ask.page in ask.slot is latched S, and the body can be read until it is unlatched, where the pool keeps it: it is fit for bytes alone.
     virtual void see(const pinpool_ask &, const std::uint8_t *) {}
     // ask.page in ask.slot is latched X, and the body can be changed until it is unlatched.
     virtual void change(const pinpool_ask &, std::uint8_t *) {}

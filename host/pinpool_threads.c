@@ -11,13 +11,19 @@
 /* An image is a head and a body; a plan has so many slots at most. */
 enum { HEAD = 12, SLOTS = 32 };
 
+/* A page that a plan has latched X. What the work changes is a copy, which is put in right before the latch is taken off. For a work may
+** give up, or a device fail, when the page was changed already: then it stays as it was. A page that is latched S needs no copy. */
+typedef struct changing {
+    uint8_t *copy;  /* one of the chair's bodies; NULL: the slot has none */
+    uint8_t *place; /* where the pool keeps the body, as long as it is latched X; else NULL */
+} changing;
+
 /* What a chair's thread has of its own. */
 typedef struct chair {
-    uint8_t *image;          /* what a device reads into or writes from */
-    uint8_t *bodies;         /* room for `room` bodies */
-    uint32_t room, used;     /* bit k of `used`: body k is a slot's */
-    uint8_t *body[SLOTS];    /* each slot's, while its page is latched and was copied */
-    uint8_t is_mine[SLOTS];  /* 1: it is latched X, and what is in the body becomes the page */
+    uint8_t *image;           /* what a device reads into or writes from */
+    uint8_t *bodies;          /* room for `room` bodies */
+    uint32_t room, used;      /* bit k of `used`: body k is a slot's */
+    changing changing[SLOTS]; /* each slot's */
 } chair;
 
 struct pinpool_threads {
@@ -34,14 +40,15 @@ struct pinpool_threads {
     int has_flusher;
 };
 
-/* A plan that runs. */
+/* A plan that runs, by one thread. */
 typedef struct job {
     pinpool_threads *pool;
     const pinpool_work *work;
     chair *chair;
     uint64_t ticket;
-    pinpool_ask ask; /* the next step */
-    int given_up;
+    pinpool_ask ask;   /* the next step */
+    pinpool_told told; /* whom calls have told since the lock was taken */
+    int has_lock, given_up;
 } job;
 
 /* ---- bells */
@@ -67,7 +74,49 @@ static void nap_at(pinpool_threads *pool, uint64_t ticket) {
     pthread_cond_timedwait(&pool->bells[pinpool_bell(ticket)], &pool->lock, &until);
 }
 
-/* ---- bodies */
+/* ---- the lock of a plan's thread. It is taken for as many calls as follow one another, and let go where the work, the device or a copy
+** comes in between. */
+
+static const pinpool_told nobody = {0, PINPOOL_NOBODY, 0, 0};
+
+/* Takes the lock, if the thread hasn't got it. */
+static void take(job *job) {
+    if (!job->has_lock) pthread_mutex_lock(&job->pool->lock);
+    job->has_lock = 1;
+}
+
+/* Rings for those whom calls have told. */
+static void ring_all(job *job) {
+    ring(job->pool, &job->told);
+    job->told = nobody;
+}
+
+/* Lets the lock go, if the thread has it. (The bells are rung before that, at the last moment: helgrind calls the other order dubious.) */
+static void let_go(job *job) {
+    if (!job->has_lock) return;
+    ring_all(job);
+    pthread_mutex_unlock(&job->pool->lock);
+    job->has_lock = 0;
+}
+
+/* A call has told these, too. */
+static void tell(job *job, const pinpool_told *told) {
+    if (told->next != PINPOOL_NOBODY) {
+        if (job->told.next != PINPOOL_NOBODY && job->told.next != told->next) ring_all(job);
+        job->told.next = told->next;
+    }
+    job->told.running |= told->running;
+    job->told.all |= told->all;
+    job->told.flusher |= told->flusher;
+}
+
+/* Sleeps, with the lock, until the job's bell rings. */
+static void await_bell(job *job) {
+    ring_all(job);
+    sleep_at(job->pool, job->ticket);
+}
+
+/* ---- bodies that are changed */
 
 static size_t body_bytes(const pinpool_threads *pool) { return pool->sizes.page_bytes - HEAD; }
 
@@ -86,54 +135,47 @@ static int make_room(pinpool_threads *pool, chair *chair, uint64_t peak) {
     return 1;
 }
 
-/* A body of the chair's for a slot that has none; NULL where there is none left. */
-static uint8_t *body_for(job *job, uint32_t slot, int is_mine) {
+/* Copies a body that lies at this place, and was latched X in this slot. NULL where the chair has no room for it. */
+static uint8_t *copied(job *job, uint32_t slot, uint8_t *place) {
     chair *chair = job->chair;
+    changing *changing = &chair->changing[slot];
     uint32_t at = 0;
     while (at < chair->room && chair->used >> at & 1) at++;
-    if (at == chair->room || slot >= SLOTS) return NULL;
+    if (at == chair->room) return NULL;
     chair->used |= (uint32_t)1 << at;
-    chair->is_mine[slot] = (uint8_t)is_mine;
-    return chair->body[slot] = chair->bodies + at * body_stride(job->pool);
+    changing->place = place;
+    changing->copy = chair->bodies + at * body_stride(job->pool);
+    return memcpy(changing->copy, place, body_bytes(job->pool));
 }
 
-/* The slot has no body any more. */
-static void let_go(job *job, uint32_t slot) {
+/* The slot is about to be unlatched: what is in its copy becomes the page, unless the work has given up. */
+static void put_in(job *job, uint32_t slot) {
     chair *chair = job->chair;
-    chair->used &= ~((uint32_t)1 << (size_t)(chair->body[slot] - chair->bodies) / body_stride(job->pool));
-    chair->body[slot] = NULL;
+    changing *changing = &chair->changing[slot < SLOTS ? slot : 0];
+    if (slot >= SLOTS || !changing->copy) return;
+    if (!job->given_up) {
+        let_go(job);
+        memcpy(changing->place, changing->copy, body_bytes(job->pool));
+    }
+    chair->used &= ~((uint32_t)1 << (size_t)(changing->copy - chair->bodies) / body_stride(job->pool));
+    changing->copy = NULL;
 }
 
-/* Copies the page that was just latched into a body of its slot. */
-static uint8_t *copied(job *job, uint32_t slot, int is_mine) {
-    pinpool_threads *pool = job->pool;
-    uint8_t *body = body_for(job, slot, is_mine);
-    if (!body || pinpool_read(&pool->pool, job->ticket, slot, 0, body, body_bytes(pool)) == PINPOOL_DONE) return body;
-    let_go(job, slot);
-    return NULL;
+/* Whether the slot, which is unlatched now, had a page that the work might change. */
+static int was_mine(job *job, uint32_t slot) {
+    if (slot >= SLOTS || !job->chair->changing[slot].place) return 0;
+    job->chair->changing[slot].place = NULL;
+    return 1;
 }
 
-/* The slot is about to be unlatched: what is in its body becomes the page, unless the work has given up. */
-static void put_back(job *job, uint32_t slot) {
-    pinpool_threads *pool = job->pool;
-    chair *chair = job->chair;
-    uint8_t *body = slot < SLOTS ? chair->body[slot] : NULL;
-    if (!body) return;
-    if (chair->is_mine[slot] && !job->given_up &&
-        pinpool_write(&pool->pool, job->ticket, slot, 0, body, body_bytes(pool)) != PINPOOL_DONE)
-        job->given_up = 1;
-    let_go(job, slot);
-}
-
-/* ---- a plan's steps. The lock is held, and given back while a work or a device is called. */
+/* ---- a plan's steps */
 
 /* The page that the work names, or the branch; where it gives up, the first page and the last branch. */
 static uint32_t named(job *job, uint32_t (*names)(void *of, const pinpool_ask *ask), uint32_t first, uint32_t otherwise) {
     uint32_t answer;
     if (job->given_up) return otherwise;
-    pthread_mutex_unlock(&job->pool->lock);
+    let_go(job);
     answer = names ? names(job->work->of, &job->ask) : PINPOOL_NOBODY;
-    pthread_mutex_lock(&job->pool->lock);
     if (answer - first < job->ask.count) return answer;
     job->given_up = 1;
     return otherwise;
@@ -143,21 +185,20 @@ static uint32_t named(job *job, uint32_t (*names)(void *of, const pinpool_ask *a
 static uint32_t read_page(job *job) {
     pinpool_threads *pool = job->pool;
     uint8_t *image = job->chair->image;
-    int came;
-    pthread_mutex_unlock(&pool->lock);
-    came = pool->device.read(pool->device.of, job->ask.page, image, pool->sizes.page_bytes);
-    pthread_mutex_lock(&pool->lock);
-    return came && pinpool_came(&pool->pool, job->ticket, image, pool->sizes.page_bytes) == PINPOOL_DONE;
+    let_go(job);
+    if (!pool->device.read(pool->device.of, job->ask.page, image, pool->sizes.page_bytes)) return 0;
+    take(job);
+    return pinpool_came(&pool->pool, job->ticket, image, pool->sizes.page_bytes) == PINPOOL_DONE;
 }
 
-/* Has the device write what this ticket is to write. 1 where it did. */
-static uint32_t write_page(pinpool_threads *pool, uint64_t ticket, uint32_t page, uint8_t *image) {
-    int is_written;
-    if (pinpool_image(&pool->pool, ticket, image, pool->sizes.page_bytes) != PINPOOL_DONE) return 0;
-    pthread_mutex_unlock(&pool->lock);
-    is_written = pool->device.write(pool->device.of, page, image, pool->sizes.page_bytes);
-    pthread_mutex_lock(&pool->lock);
-    return is_written != 0;
+/* Has the device write the page that makes room. 1 where it did. */
+static uint32_t write_page(job *job) {
+    pinpool_threads *pool = job->pool;
+    uint8_t *image = job->chair->image;
+    take(job);
+    if (pinpool_image(&pool->pool, job->ticket, image, pool->sizes.page_bytes) != PINPOOL_DONE) return 0;
+    let_go(job);
+    return pool->device.write(pool->device.of, job->ask.page, image, pool->sizes.page_bytes) != 0;
 }
 
 /* Does what the next step wants of the host, and gives its argument. */
@@ -168,8 +209,8 @@ static uint32_t argument_of(job *job) {
     case PINPOOL_GATHER: return named(job, job->work->page, ask->first, ask->first);
     case PINPOOL_CHOOSE: return named(job, job->work->branch, 0, ask->count - 1);
     case PINPOOL_READ: return !job->given_up && read_page(job);
-    case PINPOOL_WRITE: return !job->given_up && write_page(job->pool, job->ticket, ask->page, job->chair->image);
-    case PINPOOL_UNLATCH: put_back(job, ask->slot); return 0;
+    case PINPOOL_WRITE: return !job->given_up && write_page(job);
+    case PINPOOL_UNLATCH: put_in(job, ask->slot); return 0;
     default: return 0;
     }
 }
@@ -180,30 +221,29 @@ static int wants(const job *job, uint32_t step) {
     return step == PINPOOL_LATCH_X ? job->work->change != NULL : step == PINPOOL_LATCH_S && job->work->see != NULL;
 }
 
-/* The latch is made, and the page copied, if it could be: the work sees it, or changes it. */
-static void show(job *job, const pinpool_ask *latched, uint8_t *body) {
+/* The latch is made: the work sees the page where it lies, or changes a copy of it. */
+static void show(job *job, const pinpool_ask *latched) {
     const pinpool_work *work = job->work;
-    int goes_on = 0;
-    if (body) {
-        pthread_mutex_unlock(&job->pool->lock);
-        goes_on = latched->step == PINPOOL_LATCH_X ? work->change(work->of, latched, body) : work->see(work->of, latched, body);
-        pthread_mutex_lock(&job->pool->lock);
+    pinpool_lent lent;
+    uint8_t *copy;
+    job->given_up = 1;
+    if (latched->slot >= SLOTS || pinpool_lend(&job->pool->pool, job->ticket, latched->slot, &lent) != PINPOOL_DONE) return;
+    let_go(job);
+    if (latched->step == PINPOOL_LATCH_S) {
+        job->given_up = !work->see(work->of, latched, lent.bytes);
+    } else if ((copy = copied(job, latched->slot, lent.bytes))) {
+        job->given_up = !work->change(work->of, latched, copy);
     }
-    job->given_up = !goes_on;
 }
 
-/* Fixes the page, latches it S and copies it by one call, where that goes, and shows it to the work. Else it tells why not. */
+/* Fixes the page and latches it S by one call, where that goes, and shows it to the work. Else it tells why not. */
 static pinpool_answer get(job *job, uint32_t page) {
-    pinpool_threads *pool = job->pool;
-    pinpool_ask latched = {.step = PINPOOL_LATCH_S, .slot = job->ask.slot, .page = page};
+    const pinpool_ask latched = {.step = PINPOOL_LATCH_S, .slot = job->ask.slot, .page = page};
     pinpool_told told;
-    pinpool_answer answer;
-    uint8_t *body = body_for(job, latched.slot, 0);
-    if (!body) return PINPOOL_NOT_AT_ONCE;
-    answer = pinpool_get(&pool->pool, job->ticket, page, 0, body, body_bytes(pool), &job->ask, &told);
-    ring(pool, &told);
-    if (answer == PINPOOL_DONE) show(job, &latched, body);
-    else let_go(job, latched.slot);
+    uint8_t nothing;
+    pinpool_answer answer = pinpool_get(&job->pool->pool, job->ticket, page, 0, &nothing, 0, &job->ask, &told);
+    tell(job, &told);
+    if (answer == PINPOOL_DONE) show(job, &latched);
     return answer;
 }
 
@@ -211,28 +251,26 @@ static pinpool_answer get(job *job, uint32_t page) {
 static pinpool_answer put(job *job) {
     pinpool_told told;
     pinpool_answer answer = pinpool_put(&job->pool->pool, job->ticket, &job->ask, &told);
-    ring(job->pool, &told);
+    tell(job, &told);
     return answer;
 }
 
 /* Makes two steps by one call, where the next one begins a reading for the work, or ends one. NOT_AT_ONCE: it doesn't go. */
 static pinpool_answer at_once(job *job, uint32_t argument) {
-    const pinpool_ask *ask = &job->ask;
-    if (ask->step == PINPOOL_FIX && wants(job, PINPOOL_LATCH_S)) return get(job, argument);
-    if (ask->step == PINPOOL_UNLATCH && ask->slot < SLOTS && !job->chair->is_mine[ask->slot]) return put(job);
+    if (job->ask.step == PINPOOL_FIX && wants(job, PINPOOL_LATCH_S)) return get(job, argument);
+    if (job->ask.step == PINPOOL_UNLATCH && !was_mine(job, job->ask.slot)) return put(job);
     return PINPOOL_NOT_AT_ONCE;
 }
 
 /* Makes the next step, once it is possible. */
 static pinpool_answer go(job *job, uint32_t argument) {
-    pinpool_threads *pool = job->pool;
     pinpool_told told;
     pinpool_answer answer;
     for (;;) {
-        answer = pinpool_go(&pool->pool, job->ticket, argument, &job->ask, &told);
-        ring(pool, &told);
+        answer = pinpool_go(&job->pool->pool, job->ticket, argument, &job->ask, &told);
+        tell(job, &told);
         if (answer != PINPOOL_NOT_NOW) return answer;
-        sleep_at(pool, job->ticket);
+        await_bell(job);
     }
 }
 
@@ -243,10 +281,11 @@ static pinpool_answer run(job *job) {
     while (job->ask.step != PINPOOL_OVER && job->ask.step != PINPOOL_GONE) {
         uint32_t argument = argument_of(job);
         step = job->ask;
+        take(job);
         if ((answer = at_once(job, argument)) == PINPOOL_DONE) continue;
         if (answer == PINPOOL_NOT_AT_ONCE) answer = go(job, argument);
         if (answer != PINPOOL_DONE) return answer;
-        if (wants(job, step.step)) show(job, &step, copied(job, step.slot, step.step == PINPOOL_LATCH_X));
+        if (wants(job, step.step)) show(job, &step);
     }
     return PINPOOL_DONE;
 }
@@ -254,7 +293,7 @@ static pinpool_answer run(job *job) {
 /* Gives back the chair of a plan that wasn't taken. */
 static void leave(job *job) {
     pinpool_told told;
-    if (pinpool_leave(&job->pool->pool, job->ticket, &told) == PINPOOL_DONE) ring(job->pool, &told);
+    if (pinpool_leave(&job->pool->pool, job->ticket, &told) == PINPOOL_DONE) tell(job, &told);
 }
 
 /* Waits for a chair, and for room for the plan's pages. */
@@ -265,14 +304,14 @@ static pinpool_answer sit(job *job, const pinpool_plan *plan) {
     if (answer != PINPOOL_DONE) return answer;
     for (;;) {
         answer = pinpool_start(&pool->pool, &job->ticket, &job->ask, &told);
-        ring(pool, &told);
+        tell(job, &told);
         if (answer == PINPOOL_DONE) break;
         if (answer != PINPOOL_NOT_NOW) return answer;
-        sleep_at(pool, job->ticket);
+        await_bell(job);
     }
     job->chair = &pool->chairs[pinpool_bell(job->ticket)];
     job->chair->used = 0;
-    memset(job->chair->body, 0, sizeof job->chair->body);
+    memset(job->chair->changing, 0, sizeof job->chair->changing);
     if (make_room(pool, job->chair, plan->peak)) return PINPOOL_DONE;
     leave(job);
     return PINPOOL_OUT_OF_MEMORY;
@@ -280,16 +319,16 @@ static pinpool_answer sit(job *job, const pinpool_plan *plan) {
 
 pinpool_answer pinpool_threads_execute(
     pinpool_threads *pool, const pinpool_plan *plan, const pinpool_work *work, pinpool_end *end) {
-    job job = {.pool = pool, .work = work};
+    job job = {.pool = pool, .work = work, .told = nobody};
     pinpool_answer answer;
     memset(end, 0, sizeof *end);
-    pthread_mutex_lock(&pool->lock);
+    take(&job);
     answer = sit(&job, plan);
     if (answer == PINPOOL_DONE) {
         answer = run(&job);
         if (answer == PINPOOL_OUT_OF_MEMORY) leave(&job);
     }
-    pthread_mutex_unlock(&pool->lock);
+    let_go(&job);
     if (answer != PINPOOL_DONE) return answer;
     end->given_up = job.given_up != 0;
     if (end->given_up || job.ask.step != PINPOOL_GONE) return answer;
@@ -309,12 +348,22 @@ static pinpool_answer flusher_goes(pinpool_threads *pool, uint32_t argument) {
     return answer;
 }
 
+/* Has the device write the page whose flush has begun. 1 where it did. */
+static uint32_t write_changed(pinpool_threads *pool) {
+    int is_written;
+    if (pinpool_image(&pool->pool, pool->ticket, pool->image, pool->sizes.page_bytes) != PINPOOL_DONE) return 0;
+    pthread_mutex_unlock(&pool->lock);
+    is_written = pool->device.write(pool->device.of, pool->ask.page, pool->image, pool->sizes.page_bytes);
+    pthread_mutex_lock(&pool->lock);
+    return is_written != 0;
+}
+
 /* Writes one changed page back. DONE; STILL_DIRTY where the device failed; NONE_TO_FLUSH; FLUSHES_SPENT. */
 static pinpool_answer flush_one(pinpool_threads *pool) {
     uint32_t is_written;
     pinpool_answer answer = flusher_goes(pool, 0);
     if (answer != PINPOOL_DONE) return answer == PINPOOL_NOT_NOW ? PINPOOL_NONE_TO_FLUSH : answer;
-    is_written = write_page(pool, pool->ticket, pool->ask.page, pool->image);
+    is_written = write_changed(pool);
     answer = flusher_goes(pool, is_written);
     return answer == PINPOOL_DONE && !is_written ? PINPOOL_STILL_DIRTY : answer;
 }

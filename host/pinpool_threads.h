@@ -33,9 +33,10 @@ typedef struct pinpool_device {
 /* What a thread does with the pages of its plan, and which way it takes where the plan leaves that open. The calls come one after another,
 ** by the thread that executes the plan, outside the lock, in the order of the plan's statements.
 **
-** A body is the thread's own copy of the page behind its head: page_bytes - 12 bytes, at a place fit for any type. It stays there from the
-** call in which it is handed over until the plan takes the latch off that slot, so a work may keep the pointer so long, and have several
-** pages at once. What stands in the body of a page that was latched X when its latch is taken off, is the page from then on.
+** A body is a page behind its head: page_bytes - 12 bytes. It stays where it is from the call in which it is handed over until the plan takes
+** the latch off that slot, so a work may keep the pointer so long, and have several pages at once; behind that it must not. The body of a page
+** that is latched S is read where the pool keeps it, at a place fit for bytes alone: numbers are copied out. That of a page that is latched X
+** is a copy, at a place fit for any type. What stands there when its latch is taken off, is the page from then on.
 **
 ** A work can give its plan up, by PINPOOL_NOBODY as its page or branch, or by 0 as it sees or changes a page. A plan can't be left in the
 ** midst, so what is left of it is run without the work and the device: the first page of each region, the last branch of each choice,
@@ -49,7 +50,7 @@ typedef struct pinpool_work {
     uint32_t (*page)(void *of, const pinpool_ask *ask);
     /* The branch to take, below ask->count. May be null where the plan has no choice. */
     uint32_t (*branch)(void *of, const pinpool_ask *ask);
-    /* ask->page in ask->slot is latched S. 1 goes on, 0 gives the plan up. May be null: then it isn't copied. */
+    /* ask->page in ask->slot is latched S. 1 goes on, 0 gives the plan up. May be null. */
     int (*see)(void *of, const pinpool_ask *ask, const uint8_t *body);
     /* ask->page in ask->slot is latched X. 1 goes on, 0 gives the plan up. May be null: then the page isn't changed. */
     int (*change)(void *of, const pinpool_ask *ask, uint8_t *body);

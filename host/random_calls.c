@@ -53,6 +53,13 @@ static const char *const refused_texts[] = {
     "garbage", "\xff\xfe", "frames = 4\n", ""};
 enum { REFUSED_TEXTS = sizeof refused_texts / sizeof *refused_texts };
 
+/* Settings that aren't a pool's that stands: a bounded life, no flush, and 33 workers. */
+#define SETTINGS(waiting, workers, flushes) \
+    "version = 2\nframes = 40\npage_bytes = 512\nworkers = " workers "\nwaiting = " waiting "\nflushes = " flushes "\n" \
+    "[[region]]\nname = \"low\"\nfirst = 0\ncount = 7\nclass = 1\n"
+static const char *const other_settings[] = {SETTINGS("0", "3", "9"), SETTINGS("1", "3", "0"), SETTINGS("1", "33", "9")};
+enum { OTHER_SETTINGS = sizeof other_settings / sizeof *other_settings };
+
 /* What the host knows of a ticket that is out. */
 typedef struct seat {
     uint64_t ticket;
@@ -63,6 +70,7 @@ typedef struct seat {
     int spoiled; /* a call of its device failed, or gave another page */
     char latch[SLOTS];
     uint32_t page[SLOTS];
+    uint8_t *lent[SLOTS]; /* where its body lies, once it was asked */
 } seat;
 
 typedef struct tried {
@@ -77,7 +85,7 @@ typedef struct tried {
 
 static tried all[POOLS];
 static uint64_t seed;
-enum { OPEN, PREPARE, ENTER, START, NEXT, GO, GET, PUT, IMAGE, CAME, READ, WRITE, LEAVE, FLUSHER, WANTED, STATS, CLOSE, ABANDON, STOP, CALLS };
+enum { OPEN, PREPARE, ENTER, START, NEXT, GO, GET, PUT, IMAGE, CAME, READ, WRITE, LEND, LEAVE, FLUSHER, WANTED, STATS, CLOSE, ABANDON, STOP, CALLS };
 static long answered[CALLS][ANSWERS];
 
 static uint32_t below(uint32_t n) {
@@ -131,6 +139,12 @@ static void spent(seat *s) { memset(s, 0, sizeof *s); }
 
 /* ---- the calls, each with what has to be so behind it */
 
+static int is_other_settings(const char *text) {
+    for (int it = 0; it < OTHER_SETTINGS; it++)
+        if (text == other_settings[it]) return 1;
+    return 0;
+}
+
 static void try_open(tried *t, const char *text) {
     pinpool_policy policy = {below(9) ? t->of->queue : below(2) * 70000, below(3), 1 + below(4), below(3)};
     pinpool_fault fault = {0, 0};
@@ -139,6 +153,8 @@ static void try_open(tried *t, const char *text) {
     if (before) SEE(answer == PINPOOL_IN_USE && t->pool.at == before);
     else SEE((t->pool.at != NULL) == (answer == PINPOOL_DONE));
     if (answer == PINPOOL_REFUSED) SEE(fault.number);
+    if (!before && policy.queue && policy.queue < 70000)
+        SEE(is_other_settings(text) == (answer == PINPOOL_OTHER_SETTINGS));
     if (answer != PINPOOL_DONE) return;
     memset(t->seats, 0, sizeof t->seats);
     t->plans = 0, t->is_stopped = 0;
@@ -221,7 +237,7 @@ static void stepped(tried *t, seat *s, const pinpool_ask *step, uint32_t argumen
         if (step->step == PINPOOL_FIX) s->page[step->slot] = argument;
         if (step->step == PINPOOL_LATCH_S) s->latch[step->slot] = 'S';
         if (step->step == PINPOOL_LATCH_X) s->latch[step->slot] = 'X';
-        if (step->step == PINPOOL_UNLATCH) s->latch[step->slot] = 0;
+        if (step->step == PINPOOL_UNLATCH) s->latch[step->slot] = 0, s->lent[step->slot] = NULL;
         if (step->step == PINPOOL_LATCH_S || step->step == PINPOOL_LATCH_X) SEE(step->page == s->page[step->slot]);
     }
     if (s->ask.step == PINPOOL_FIX || s->ask.step == PINPOOL_GATHER) {
@@ -328,6 +344,20 @@ static void try_write(tried *t, uint64_t ticket, uint32_t slot, uint32_t from, s
     memcpy(t->body[s->page[slot]] + from, bytes, length);
 }
 
+static void try_lend(tried *t, uint64_t ticket, uint32_t slot) {
+    seat *s = seat_of(t, ticket);
+    pinpool_lent lent = {NULL, 5};
+    pinpool_answer answer = told_of(LEND, pinpool_lend(&t->pool, ticket, slot, &lent));
+    if (answer != PINPOOL_DONE) SEE(!lent.bytes && lent.length == 5);
+    if (is_refused(t, s, answer)) return;
+    SEE(slot < SLOTS && s->latch[slot] && lent.length == body_of(t));
+    SEE(!s->lent[slot] || s->lent[slot] == lent.bytes);
+    SEE(!memcmp(lent.bytes, t->body[s->page[slot]], lent.length));
+    s->lent[slot] = lent.bytes;
+    uint32_t at = below((uint32_t)lent.length);
+    if (s->latch[slot] == 'X') lent.bytes[at] = t->body[s->page[slot]][at] = (uint8_t)below(256);
+}
+
 static void try_leave(tried *t, uint64_t ticket) {
     seat *s = seat_of(t, ticket);
     pinpool_told told;
@@ -431,8 +461,11 @@ static void go_on(tried *t, seat *s, int is_good) {
         if (argument) SEE(pinpool_image(&t->pool, ticket, t->device[page], t->of->page_bytes) == PINPOOL_DONE);
         break;
     case PINPOOL_UNLATCH:
+        if (below(2)) try_lend(t, ticket, s->ask.slot);
         try_read(t, ticket, s->ask.slot, below(half), below(half - HEAD));
         if (s->latch[s->ask.slot] == 'X') try_write(t, ticket, s->ask.slot, below(half), below(half - HEAD));
+        /* (what was lent is still there, with what was written meanwhile) */
+        if (s->lent[s->ask.slot]) SEE(!memcmp(s->lent[s->ask.slot], t->body[s->page[s->ask.slot]], body_of(t)));
         break;
     default: break;
     }
@@ -463,7 +496,7 @@ static void any_call(tried *t) {
     const char *text = refused_texts[below(REFUSED_TEXTS)], *other = below(2) ? text : refused_texts[below(REFUSED_TEXTS)];
     if (below(3) == 0) text = t->of->plans[below(PLANS)];
     switch (below(CALLS)) {
-    case OPEN: try_open(t, below(2) ? t->of->settings : text); break;
+    case OPEN: try_open(t, below(2) ? t->of->settings : below(2) ? other_settings[below(OTHER_SETTINGS)] : text); break;
     case PREPARE: if (t->plans < 60) try_prepare(t, text, below(2) ? other : NULL); break;
     case ENTER: try_enter(t, some_number()); break;
     case START: try_start(t, ticket); break;
@@ -475,6 +508,7 @@ static void any_call(tried *t) {
     case CAME: if (length != page_bytes || !seat_of(t, ticket)) try_came(t, ticket, t->device[0], length % MOST_BYTES); break;
     case READ: try_read(t, ticket, below(3), below(page_bytes), length); break;
     case WRITE: try_write(t, ticket, below(2) ? below(3) : some_number(), below(2) ? below(page_bytes) : some_number(), length); break;
+    case LEND: try_lend(t, ticket, below(2) ? below(3) : some_number()); break;
     case LEAVE: try_leave(t, ticket); break;
     case FLUSHER: try_flusher(t); break;
     case WANTED: try_wanted(t, ticket, below(2)); break;
@@ -521,7 +555,7 @@ static void end(tried *t) {
 }
 
 static void show(void) {
-    static const char *const names[] = {"open", "prepare", "enter", "start", "next", "go", "get", "put", "image", "came", "read", "write", "leave",
+    static const char *const names[] = {"open", "prepare", "enter", "start", "next", "go", "get", "put", "image", "came", "read", "write", "lend", "leave",
         "flusher", "wanted", "stats", "close", "abandon", "stop"};
     for (int call = 0; call < CALLS; call++) {
         printf("%-8s", names[call]);
@@ -542,7 +576,8 @@ int main(int count, char **words) {
     for (long call = 0; call < calls; call++) {
         tried *t = &all[below(2)];
         seat *s = &t->seats[below(SEATS)];
-        if (!t->pool.at && below(20)) try_open(t, below(3) ? t->of->settings : refused_texts[below(REFUSED_TEXTS)]);
+        if (!t->pool.at && below(20))
+            try_open(t, below(3) ? t->of->settings : below(2) ? other_settings[below(OTHER_SETTINGS)] : refused_texts[below(REFUSED_TEXTS)]);
         if (t->plans < PLANS && t->pool.at) try_prepare(t, t->of->plans[below(PLANS)], NULL);
         if (!below(t->is_stopped ? 100 : 5000)) end(t);
         if (below(3) == 0) any_call(t);

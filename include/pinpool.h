@@ -12,7 +12,7 @@
 **     ask.step is PINPOOL_OVER or PINPOOL_GONE        the plan has ended, and the ticket is spent
 **
 ** **One lock.** All calls on a pool are made one at a time, under one lock of the host's. With it held a call neither waits nor
-** calls anybody. A thread reads and writes files, and looks at its copies of pages, outside the lock. Different pools can be used
+** calls anybody. A thread reads and writes files, and looks at pages that it has latched or copied, outside the lock. Different pools can be used
 ** by different threads at once.
 **
 ** **Who waits, and who wakes.** Where a call answers PINPOOL_NOT_NOW, its thread sleeps until somebody rings its *bell*, and then
@@ -207,6 +207,12 @@ typedef struct pinpool_dirty {
     uint32_t unused;
 } pinpool_dirty;
 
+/* Where the body of a page that is latched lies. */
+typedef struct pinpool_lent {
+    uint8_t *bytes; /* the first byte of the body */
+    size_t length;  /* how many bytes it has: page_bytes - 12 */
+} pinpool_lent;
+
 /* The bell of a ticket's thread. */
 static inline uint32_t pinpool_bell(uint64_t ticket) { return (uint32_t)(ticket & 65535u); }
 
@@ -272,16 +278,17 @@ PINPOOL_API PINPOOL_MUST_USE pinpool_answer pinpool_go(
     pinpool *pool, uint64_t ticket, uint32_t argument, pinpool_ask *ask, pinpool_told *told);
 
 /* Two steps by one call, for pages that are only read. At a FIX: fixes this page and latches it S, where the plan asks that latch next, the
-** page is in the pool, and nobody has it latched X; then copies so many bytes of its body, from byte `from` on, as pinpool_read does. Steps
+** page is in the pool and isn't just being read into it, and nobody has it latched X; then copies so many bytes of its body, from byte `from` on, as pinpool_read does. Steps
 ** as those of pinpool_go, and one for each byte.
 ** DONE: both steps were made. NO_POOL; BAD_TICKET; WRONG_STEP where the ticket waits to start, or is the flusher's; WRONG_ARGUMENT where the
-** bytes don't lie in the body; else NOT_AT_ONCE: make the steps by pinpool_go, with the same page. */
+** bytes don't lie in the body; else NOT_AT_ONCE, also where the next step isn't a FIX: make the next step by pinpool_go, a FIX with the
+** same page. */
 PINPOOL_API PINPOOL_MUST_USE pinpool_answer pinpool_get(pinpool *pool, uint64_t ticket, uint32_t page, uint32_t from, uint8_t *bytes,
     size_t length, pinpool_ask *ask, pinpool_told *told);
 
 /* At an UNLATCH of a page that is latched S: takes the latch off and unfixes the page, where the plan asks that next. Steps as those of
 ** pinpool_go.
-** DONE: both steps were made. NO_POOL; BAD_TICKET; WRONG_STEP as for pinpool_get; else NOT_AT_ONCE. */
+** DONE: both steps were made. NO_POOL; BAD_TICKET; WRONG_STEP as for pinpool_get; else NOT_AT_ONCE: make the next step by pinpool_go. */
 PINPOOL_API PINPOOL_MUST_USE pinpool_answer pinpool_put(pinpool *pool, uint64_t ticket, pinpool_ask *ask, pinpool_told *told);
 
 /* Copies the image that the device is to write, at a WRITE. Length: page_bytes. It changes nothing, and takes a step a byte.
@@ -304,6 +311,13 @@ PINPOOL_API PINPOOL_MUST_USE pinpool_answer pinpool_read(
 ** pinpool_read. */
 PINPOOL_API PINPOOL_MUST_USE pinpool_answer pinpool_write(
     pinpool *pool, uint64_t ticket, uint32_t slot, uint32_t from, const uint8_t *bytes, size_t length);
+
+/* Tells where the body of the page in this slot lies, which is latched S or X, and copies nothing. From then on until the latch is taken
+** off, the thread reads there without the lock; and where the page is latched X it writes there, which is as if pinpool_write had put the
+** bytes in. Behind the call that takes the latch off nobody may use the place any more: the pool can't see to that, and says nothing of
+** what was read or written too late. `lent` is written only where it is DONE. It changes nothing, and takes a fixed number of steps.
+** DONE; NO_POOL; BAD_TICKET; WRONG_STEP where the slot has no page that is latched. */
+PINPOOL_API PINPOOL_MUST_USE pinpool_answer pinpool_lend(pinpool *pool, uint64_t ticket, uint32_t slot, pinpool_lent *lent);
 
 /* Leaves the queue, or gives back a chair whose plan wasn't taken (the next step is TAKE), or the flusher's ticket with no flush in
 ** hand (the next step is FLUSH). The ticket is spent. A step for each one that waits, and each place in the queue.

@@ -57,12 +57,19 @@ static uint32_t get_branch(void *of, const pinpool_ask *ask) {
     return ((query *)of)->visit != 0;
 }
 
+/* A page that is only seen lies at a place fit for bytes alone. */
+static node copy_of(const uint8_t *body) {
+    node n;
+    memcpy(&n, body, sizeof n);
+    return n;
+}
+
 static int get_see(void *of, const pinpool_ask *ask, const uint8_t *body) {
     query *q = of;
-    const node *n = (const void *)body;
-    const entry *e = find(n, q->key);
+    const node n = copy_of(body);
+    const entry *e = find(&n, q->key);
     (void)ask;
-    q->visit = e ? 0 : n->next;
+    q->visit = e ? 0 : n.next;
     if (e) q->value = e->value, q->is_done = 1;
     return 1;
 }
@@ -103,10 +110,10 @@ static int append(query *q, node *n) {
 /* Looks for the key in a page of the chain. Where it is, or else where there is room, that page is asked for once more, to be changed. */
 static int add_see(void *of, const pinpool_ask *ask, const uint8_t *body) {
     query *q = of;
-    const node *n = (const void *)body;
-    if (!find(n, q->key)) {
-        if (n->count < ENTRIES) q->room = ask->page;
-        q->visit = n->next;
+    const node n = copy_of(body);
+    if (!find(&n, q->key)) {
+        if (n.count < ENTRIES) q->room = ask->page;
+        q->visit = n.next;
         if (q->visit) return 1;
         q->visit = q->room;
     }

@@ -99,6 +99,12 @@ pub struct Dirty {
     pub unused: u32,
 }
 
+#[repr(C)]
+pub struct Lent {
+    pub bytes: *mut u8,
+    pub length: usize,
+}
+
 pub const NOBODY: u32 = u32::MAX;
 
 /// What calls answer (`pinpool_answer`).
@@ -192,22 +198,7 @@ extern "C" {
     pub fn pinpool_put(pool: *mut Handle, ticket: u64, ask: *mut Ask, told: *mut Told) -> u32;
     pub fn pinpool_image(pool: *mut Handle, ticket: u64, bytes: *mut u8, length: usize) -> u32;
     pub fn pinpool_came(pool: *mut Handle, ticket: u64, bytes: *const u8, length: usize) -> u32;
-    pub fn pinpool_read(
-        pool: *mut Handle,
-        ticket: u64,
-        slot: u32,
-        from: u32,
-        bytes: *mut u8,
-        length: usize,
-    ) -> u32;
-    pub fn pinpool_write(
-        pool: *mut Handle,
-        ticket: u64,
-        slot: u32,
-        from: u32,
-        bytes: *const u8,
-        length: usize,
-    ) -> u32;
+    pub fn pinpool_lend(pool: *mut Handle, ticket: u64, slot: u32, lent: *mut Lent) -> u32;
     pub fn pinpool_leave(pool: *mut Handle, ticket: u64, told: *mut Told) -> u32;
     pub fn pinpool_flusher(pool: *mut Handle, ticket: *mut u64, ask: *mut Ask) -> u32;
     pub fn pinpool_flush_wanted(pool: *mut Handle, ticket: u64, is_on: u32) -> u32;

@@ -71,18 +71,18 @@ impl<D: Device> Pool<D> {
             }
             // SAFETY: here and below, the handle is held under its lock, and each pointer is of a
             // value that lives.
-            match unsafe { ffi::pinpool_flush_wanted(&mut held.0, ticket, u32::from(is_on)) } {
+            match unsafe { ffi::pinpool_flush_wanted(held.handle(), ticket, u32::from(is_on)) } {
                 answer::DONE => {
                     drop(held);
                     is_on = matches!(self.flush_one(&mut flushing), Flushed::Page);
                     drop(flushing);
                     if !is_on {
-                        drop(self.shared.nap(self.shared.hold(), ticket));
+                        self.shared.hold().nap(ticket);
                     }
                 }
                 answer::NOT_NOW => {
                     drop(flushing);
-                    drop(self.shared.sleep(held, ticket));
+                    held.sleep(ticket);
                     is_on = false;
                 }
                 _ => return,
@@ -127,9 +127,16 @@ impl<D: Device> Pool<D> {
     fn flusher_goes(&self, flushing: &Flushing, argument: u32) -> (u32, Ask) {
         let (mut ask, mut told) = (Ask::default(), Told::NOBODY);
         let mut held = self.shared.hold();
-        let answer =
-            unsafe { ffi::pinpool_go(&mut held.0, flushing.ticket, argument, &mut ask, &mut told) };
-        self.shared.ring(&told);
+        let answer = unsafe {
+            ffi::pinpool_go(
+                held.handle(),
+                flushing.ticket,
+                argument,
+                &mut ask,
+                &mut told,
+            )
+        };
+        held.tell(&told);
         (answer, ask)
     }
 
@@ -137,7 +144,7 @@ impl<D: Device> Pool<D> {
     pub(crate) fn write_image(&self, ticket: u64, page: u32, image: &mut [u8]) -> bool {
         let copied = unsafe {
             ffi::pinpool_image(
-                &mut self.shared.hold().0,
+                self.shared.hold().handle(),
                 ticket,
                 image.as_mut_ptr(),
                 image.len(),

@@ -6,8 +6,8 @@
 //!
 //! This crate is a safe face of `libpinpool`, whose code is proved; the crate itself isn't. What it
 //! adds are the lock and the threads' bells, and Rust's own rules: a [`Pool`] is shared by
-//! reference between threads, a page's bytes can't outlive its latch, and what is refused is an
-//! [`Error`].
+//! reference between threads; a page is read where the pool keeps it, without the lock, and its
+//! bytes can't outlive its latch; and what is refused is an [`Error`].
 //!
 //! ```
 //! use pinpool::{Fix, MemoryPages, Pages, Policy, Pool, Work};
@@ -82,6 +82,21 @@
 //! }
 //! ```
 //!
+//! Nor can a work give the pages of one plan to another:
+//!
+//! ```compile_fail
+//! use pinpool::{Fix, Pages, Work};
+//! struct Swap<'a, 'p>(&'a mut Pages<'p>);
+//! impl<'a, 'p> Work for Swap<'a, 'p> {
+//!     fn page(&mut self, fix: Fix) -> Option<u32> {
+//!         Some(fix.pages.start)
+//!     }
+//!     fn change(&mut self, _slot: u32, pages: &mut Pages) {
+//!         std::mem::swap(self.0, pages); // they have other lifetimes
+//!     }
+//! }
+//! ```
+//!
 //! The folder of `libpinpool.a` is named by `PINPOOL_LIB_DIR` when the crate is built; without it
 //! the linker looks where it looks.
 #![warn(missing_docs)]
@@ -100,7 +115,7 @@ pub use device::{Device, MemoryPages, PageFile};
 pub use error::{CloseError, Error, Failure};
 pub use pages::Pages;
 pub use pool::{DirtyPage, Policy, Pool, Prepared, Sizes, Stats};
-pub use work::{Fix, Kind, Work};
+pub use work::{Ahead, Fix, Kind, Work};
 
 /// The version of the library, and whether it was built from proved code: `"0.1.0 proved"`, or
 /// `"0.1.0 unproved"`.

@@ -5,7 +5,7 @@ use crate::device::Device;
 use crate::error::{done, CloseError, Error};
 use crate::ffi::{self, answer, Ask, Fault, Handle, Told};
 use crate::flushing::Flushing;
-use crate::running::{Room, Running};
+use crate::running::Running;
 use crate::shared::{Raw, Shared};
 use crate::work::Work;
 use std::fmt;
@@ -120,7 +120,6 @@ pub struct Pool<D: Device> {
     pub(crate) shared: Shared,
     device: Option<D>,
     flushing: Mutex<Flushing>,
-    rooms: Box<[Mutex<Option<Room>>]>,
     sizes: ffi::Sizes,
     number: u64,
 }
@@ -147,14 +146,14 @@ impl<D: Device> Pool<D> {
             flush_from,
             flush_to,
         };
-        let (mut raw, mut fault) = (Raw(Handle { at: null_mut() }), Fault::default());
+        let (mut handle, mut fault) = (Handle { at: null_mut() }, Fault::default());
         let (mut sizes, mut ticket, mut ask) = (ffi::Sizes::default(), 0, Ask::default());
         // SAFETY: the handle is new, and each pointer is of a value that lives. (So it is in all
         // calls below, whose handle is held under its lock, and an empty slice's pointer isn't
         // null.)
         let answer = unsafe {
             ffi::pinpool_open(
-                &mut raw.0,
+                &mut handle,
                 settings.as_ptr(),
                 settings.len(),
                 &policy,
@@ -164,19 +163,16 @@ impl<D: Device> Pool<D> {
         if answer != answer::DONE {
             return Err(Error::of(answer, fault));
         }
-        done(unsafe { ffi::pinpool_sizes_of(&mut raw.0, &mut sizes) })?;
-        done(unsafe { ffi::pinpool_flusher(&mut raw.0, &mut ticket, &mut ask) })?;
+        done(unsafe { ffi::pinpool_sizes_of(&mut handle, &mut sizes) })?;
+        done(unsafe { ffi::pinpool_flusher(&mut handle, &mut ticket, &mut ask) })?;
         let page_bytes = sizes.page_bytes as usize;
         Ok(Pool {
-            shared: Shared::new(raw, &sizes),
+            shared: Shared::new(Raw::new(handle, &sizes), &sizes),
             device: Some(device),
             flushing: Mutex::new(Flushing {
                 ticket,
                 image: vec![0; page_bytes],
             }),
-            rooms: (0..sizes.workers)
-                .map(|_| Mutex::new(Some(Room::new(page_bytes))))
-                .collect(),
             sizes,
             number: OPENED.fetch_add(1, Ordering::Relaxed),
         })
@@ -194,7 +190,7 @@ impl<D: Device> Pool<D> {
         let mut held = self.shared.hold();
         let answer = unsafe {
             ffi::pinpool_prepare_alone(
-                &mut held.0,
+                held.handle(),
                 plan.as_ptr(),
                 plan.len(),
                 &mut kept,
@@ -202,7 +198,7 @@ impl<D: Device> Pool<D> {
                 &mut told,
             )
         };
-        self.shared.ring(&told);
+        held.tell(&told);
         self.prepared(answer, kept, fault)
     }
 
@@ -218,7 +214,7 @@ impl<D: Device> Pool<D> {
         let answer = unsafe {
             let (length, proof) = (plan.len(), certificate.as_ptr());
             ffi::pinpool_prepare(
-                &mut held.0,
+                held.handle(),
                 plan.as_ptr(),
                 length,
                 proof,
@@ -228,7 +224,7 @@ impl<D: Device> Pool<D> {
                 &mut told,
             )
         };
-        self.shared.ring(&told);
+        held.tell(&told);
         self.prepared(answer, kept, fault)
     }
 
@@ -250,8 +246,8 @@ impl<D: Device> Pool<D> {
     /// # Errors
     ///
     /// [`Error::OtherPool`], [`Error::QueueFull`], [`Error::Stopped`], [`Error::OutOfMemory`]: the
-    /// plan wasn't run, and the work wasn't called. [`Error::Gone`], [`Error::GivenUp`]: it was
-    /// left before its end.
+    /// plan wasn't run, and the work wasn't called, but for [`Work::ahead`]. [`Error::Gone`],
+    /// [`Error::GivenUp`]: it was left before its end.
     ///
     /// # Panics
     ///
@@ -260,7 +256,7 @@ impl<D: Device> Pool<D> {
         if plan.pool != self.number {
             return Err(Error::OtherPool);
         }
-        Running::begin(self, plan)?.run(work)
+        Running::execute(self, plan, work)
     }
 
     /// Lets no plan start any more. Who waits to start is answered [`Error::Stopped`], and
@@ -268,8 +264,8 @@ impl<D: Device> Pool<D> {
     pub fn stop(&self) {
         let mut told = Told::NOBODY;
         let mut held = self.shared.hold();
-        unsafe { ffi::pinpool_stop(&mut held.0, &mut told) };
-        self.shared.ring(&told);
+        unsafe { ffi::pinpool_stop(held.handle(), &mut told) };
+        held.tell(&told);
     }
 
     /// What stays as it is while the pool stands.
@@ -292,7 +288,7 @@ impl<D: Device> Pool<D> {
     /// What was done, and how things stand.
     pub fn stats(&self) -> Stats {
         let mut s = ffi::Stats::default();
-        unsafe { ffi::pinpool_stats_of(&mut self.shared.hold().0, &mut s) };
+        unsafe { ffi::pinpool_stats_of(self.shared.hold().handle(), &mut s) };
         Stats {
             hits: s.hits,
             misses: s.misses,
@@ -318,7 +314,7 @@ impl<D: Device> Pool<D> {
         let (mut pages, mut count) = (vec![ffi::Dirty::default(); most], 0);
         done(unsafe {
             ffi::pinpool_dirty_pages(
-                &mut self.shared.hold().0,
+                self.shared.hold().handle(),
                 pages.as_mut_ptr(),
                 most,
                 &mut count,
@@ -353,10 +349,10 @@ impl<D: Device> Pool<D> {
         let (mut told, mut ask) = (Told::NOBODY, Ask::default());
         let mut flushing = self.flushing();
         let mut held = self.shared.hold();
-        done(unsafe { ffi::pinpool_leave(&mut held.0, flushing.ticket, &mut told) })?;
-        let ended = done(unsafe { ffi::pinpool_close(&mut held.0) });
+        done(unsafe { ffi::pinpool_leave(held.handle(), flushing.ticket, &mut told) })?;
+        let ended = done(unsafe { ffi::pinpool_close(held.handle()) });
         if ended.is_err() {
-            done(unsafe { ffi::pinpool_flusher(&mut held.0, &mut flushing.ticket, &mut ask) })?;
+            done(unsafe { ffi::pinpool_flusher(held.handle(), &mut flushing.ticket, &mut ask) })?;
         }
         ended
     }
@@ -373,7 +369,7 @@ impl<D: Device> Pool<D> {
 
     fn give_up(&mut self) -> u32 {
         let mut lost = 0;
-        unsafe { ffi::pinpool_abandon(&mut self.shared.hold().0, &mut lost) };
+        unsafe { ffi::pinpool_abandon(self.shared.hold().handle(), &mut lost) };
         lost
     }
 
@@ -385,20 +381,9 @@ impl<D: Device> Pool<D> {
         self.flushing.lock().unwrap_or_else(|e| e.into_inner())
     }
 
-    /// The room of the ticket's chair.
-    pub(crate) fn take_room(&self, ticket: u64) -> Room {
-        let room = self.room(ticket).take();
-        room.unwrap_or_else(|| Room::new(self.sizes.page_bytes as usize))
-    }
-
-    pub(crate) fn give_room(&self, ticket: u64, room: Room) {
-        *self.room(ticket) = Some(room);
-    }
-
-    fn room(&self, ticket: u64) -> MutexGuard<'_, Option<Room>> {
-        self.rooms[ffi::bell_of(ticket)]
-            .lock()
-            .unwrap_or_else(|e| e.into_inner())
+    /// How many bytes an image has.
+    pub(crate) fn page_bytes(&self) -> usize {
+        self.sizes.page_bytes as usize
     }
 }
 

@@ -1,26 +1,43 @@
 // SPDX-License-Identifier: Apache-2.0
 //! A plan that runs.
+//!
+//! Its thread takes the pool's lock for as many calls as follow one another, and lets it go where
+//! something of its own comes in between: a call of the work or of the device, or a copy of a page.
+//! So where a work says ahead what it answers, a plan that goes down a tree takes the lock once for
+//! each page, and once to end: under one hold the parent is given back and the child is latched.
 
 use crate::device::Device;
 use crate::error::{done, Error};
-use crate::ffi::{self, answer, step, Ask, Told};
-use crate::pages::Pages;
+use crate::ffi::{self, answer, step, Ask, Lent, Told};
+use crate::pages::{Pages, Table};
 use crate::pool::{Pool, Prepared};
 use crate::shared::Held;
-use crate::work::{Fix, Kind, Work};
+use crate::work::{Ahead, Fix, Kind, Work};
+use std::ptr::null_mut;
+
+/// How many steps are made under one hold of the lock at most. Plans come to it only where they are
+/// given up, and what is left of them is long.
+const STEPS_AT_ONCE: usize = 32;
 
 /// What the thread in a chair has of its own, and leaves to the next one.
 pub(crate) struct Room {
-    pages: Pages,
+    table: Table,
+    /// What a device reads into or writes from. It is empty until a page has to be read.
     image: Vec<u8>,
 }
 
 impl Room {
-    pub(crate) fn new(page_bytes: usize) -> Room {
+    fn new() -> Room {
         Room {
-            pages: Pages::new(page_bytes),
-            image: vec![0; page_bytes],
+            table: Table::new(),
+            image: Vec::new(),
         }
+    }
+
+    /// The room for an image of so many bytes.
+    fn image(&mut self, page_bytes: usize) -> &mut [u8] {
+        self.image.resize(page_bytes, 0);
+        &mut self.image
     }
 }
 
@@ -31,58 +48,86 @@ enum Latch {
     Exclusive,
 }
 
+/// A page was latched that the work is to see: its slot, and how.
+type Shown = Option<(u32, Latch)>;
+
 /// A plan that runs, by a chair. Where it falls before its end, as by a panic, what is left of the
 /// plan is run without its work.
 pub(crate) struct Running<'p, D: Device> {
     pool: &'p Pool<D>,
     ticket: u64,
     ask: Ask,
-    room: Room,
+    /// What the work has said ahead, and wasn't asked for yet.
+    ahead: Ahead,
+    /// Some, until the plan has ended.
+    room: Option<Box<Room>>,
     is_given_up: bool,
     is_broken: bool,
 }
 
 impl<'p, D: Device> Running<'p, D> {
-    /// Waits for a chair, and for room for the plan's pages, and takes the plan.
-    pub(crate) fn begin(pool: &'p Pool<D>, plan: &Prepared) -> Result<Running<'p, D>, Error> {
-        let (mut ticket, mut ask, mut told) = (0, Ask::default(), Told::NOBODY);
+    /// Runs a plan: waits for a chair, and for room for the plan's pages, takes the plan, and makes
+    /// its steps up to its end.
+    pub(crate) fn execute<W: Work + ?Sized>(
+        pool: &'p Pool<D>,
+        plan: &Prepared,
+        work: &mut W,
+    ) -> Result<(), Error> {
+        let ahead = work.ahead();
         let mut held = pool.shared.hold();
+        let mut running = Running::begin(pool, &mut held, plan, ahead)?;
+        let mut held = Some(held);
+        while !running.is_over() {
+            running.turn(held.take(), Some(&mut *work))?;
+        }
+        running.ended()
+    }
+
+    /// Waits for a chair, and for room for the plan's pages, and takes the plan.
+    fn begin(
+        pool: &'p Pool<D>,
+        held: &mut Held<'p>,
+        plan: &Prepared,
+        ahead: Ahead,
+    ) -> Result<Running<'p, D>, Error> {
+        let (mut ticket, mut ask, mut told) = (0, Ask::default(), Told::NOBODY);
         // SAFETY: here and below, the handle is held under its lock, and each pointer is of a value
         // that lives.
-        done(unsafe { ffi::pinpool_enter(&mut held.0, plan.number, &mut ticket) })?;
+        done(unsafe { ffi::pinpool_enter(held.handle(), plan.number, &mut ticket) })?;
         loop {
             let answer =
-                unsafe { ffi::pinpool_start(&mut held.0, &mut ticket, &mut ask, &mut told) };
-            pool.shared.ring(&told);
+                unsafe { ffi::pinpool_start(held.handle(), &mut ticket, &mut ask, &mut told) };
+            held.tell(&told);
             match answer {
-                answer::NOT_NOW => held = pool.shared.sleep(held, ticket),
+                answer::NOT_NOW => held.sleep(ticket),
                 answer => break done(answer)?,
             }
         }
-        let answer = unsafe { ffi::pinpool_go(&mut held.0, ticket, 0, &mut ask, &mut told) };
-        pool.shared.ring(&told);
+        let answer = unsafe { ffi::pinpool_go(held.handle(), ticket, 0, &mut ask, &mut told) };
+        held.tell(&told);
         if let Err(error) = done(answer) {
-            unsafe { ffi::pinpool_leave(&mut held.0, ticket, &mut told) };
-            pool.shared.ring(&told);
+            unsafe { ffi::pinpool_leave(held.handle(), ticket, &mut told) };
+            held.tell(&told);
             return Err(error);
         }
-        drop(held);
-        let room = pool.take_room(ticket);
+        let room = held.raw().take_room(ticket);
         Ok(Running {
             pool,
             ticket,
             ask,
-            room,
+            ahead,
+            room: Some(room.unwrap_or_else(|| Box::new(Room::new()))),
             is_given_up: false,
             is_broken: false,
         })
     }
 
-    /// Runs the plan to its end.
-    pub(crate) fn run<W: Work + ?Sized>(mut self, work: &mut W) -> Result<(), Error> {
-        while !self.is_over() {
-            self.turn(Some(&mut *work))?;
-        }
+    fn is_over(&self) -> bool {
+        self.is_broken || self.ask.step == step::OVER || self.ask.step == step::GONE
+    }
+
+    /// How the plan has ended.
+    fn ended(&self) -> Result<(), Error> {
         match self.ask.step {
             _ if self.is_given_up => Err(Error::GivenUp),
             step::GONE => Err(Error::gone(self.ask.page, self.ask.why)),
@@ -90,81 +135,172 @@ impl<'p, D: Device> Running<'p, D> {
         }
     }
 
-    fn is_over(&self) -> bool {
-        self.is_broken || self.ask.step == step::OVER || self.ask.step == step::GONE
+    fn room(&mut self) -> &mut Room {
+        self.room.as_mut().expect("it is there until the end")
     }
 
-    /// Makes the next step, or two by one call where a page is only read: first what it wants of the
-    /// work or the device, then the step, and then the work sees a page that was latched.
-    fn turn<W: Work + ?Sized>(&mut self, work: Option<&mut W>) -> Result<(), Error> {
-        let mut work = work.filter(|_| !self.is_given_up);
-        let now = self.ask;
-        let argument = match now.step {
-            step::FIX | step::GATHER => self.page(work.as_deref_mut()),
-            step::CHOOSE => self.branch(work.as_deref_mut()),
-            step::READ => u32::from(work.is_some() && self.read()),
-            step::WRITE => u32::from(work.is_some() && self.write()),
-            _ => 0,
-        };
-        let is_shown = work.is_some() && !self.is_given_up;
-        let latched = self.step(argument, is_shown)?;
-        if let (Some(work), Some(latch)) = (work, latched) {
-            match latch {
-                Latch::Exclusive => work.change(now.slot, &mut self.room.pages),
-                Latch::Shared => work.see(now.slot, &self.room.pages),
+    fn table(&mut self) -> &mut Table {
+        &mut self.room().table
+    }
+
+    /// Does what the next step wants of the work or the device, makes it and those behind it that
+    /// want nothing of them, and then the work sees a page that was latched. The lock may be held
+    /// already.
+    fn turn<W: Work + ?Sized>(
+        &mut self,
+        held: Option<Held<'p>>,
+        mut work: Option<&mut W>,
+    ) -> Result<(), Error> {
+        let (held, argument) = match self.known() {
+            Some(argument) => (held, argument),
+            None => {
+                drop(held);
+                (None, self.asked(work.as_deref_mut()))
             }
-            self.is_given_up |= self.room.pages.take_given_up();
+        };
+        let held = held.unwrap_or_else(|| self.pool.shared.hold());
+        let latched = self.steps(held, argument)?;
+        if let (Some(work), Some((slot, latch))) = (work, latched) {
+            self.show(work, slot, latch);
         }
         Ok(())
     }
 
-    /// Makes the next step, or two by one call. Tells how a page was latched that the work is to
-    /// see, if it is shown any; the page is copied then.
-    fn step(&mut self, argument: u32, is_shown: bool) -> Result<Option<Latch>, Error> {
+    /// Makes the next step, and those behind it that want nothing of the work or the device, up to a
+    /// page that the work is to see. Then the lock is let go, and those whom the calls have told are
+    /// rung for.
+    fn steps(&mut self, mut held: Held<'p>, argument: u32) -> Result<Shown, Error> {
+        let mut argument = argument;
+        for made in 1.. {
+            let latched = self.step(&mut held, argument)?;
+            if self.is_over() {
+                self.end(&mut held);
+                break;
+            }
+            if latched.is_some() || made == STEPS_AT_ONCE {
+                return Ok(latched);
+            }
+            argument = match self.known() {
+                Some(argument) => argument,
+                None => break,
+            };
+        }
+        Ok(None)
+    }
+
+    /// The argument of the next step, where it is known without the work and the device: since it
+    /// wants none, was said ahead, or the plan is given up. That of a page or a branch is used up.
+    fn known(&mut self) -> Option<u32> {
+        let Ask {
+            step, first, count, ..
+        } = self.ask;
+        match step {
+            step::FIX | step::GATHER if self.is_given_up => Some(first),
+            step::CHOOSE if self.is_given_up => Some(count.saturating_sub(1)),
+            _ if self.is_given_up => Some(0),
+            step::FIX | step::GATHER => {
+                let page = self.ahead.page.take()?;
+                Some(self.page_or_give_up(Some(page)))
+            }
+            step::CHOOSE => {
+                let branch = self.ahead.branch.take()?;
+                Some(self.branch_or_give_up(Some(branch)))
+            }
+            step::READ | step::WRITE => None,
+            step::UNLATCH => {
+                let slot = self.ask.slot;
+                (!self.table().is_changed(slot)).then_some(0)
+            }
+            _ => Some(0),
+        }
+    }
+
+    /// Does what the next step wants of the work or the device, and gives its argument. The plan
+    /// isn't given up, and the lock isn't held.
+    fn asked<W: Work + ?Sized>(&mut self, work: Option<&mut W>) -> u32 {
+        match self.ask.step {
+            step::FIX | step::GATHER => {
+                let fix = self.fix();
+                let named = work.and_then(|work| work.page(fix));
+                self.page_or_give_up(named)
+            }
+            step::CHOOSE => {
+                let count = self.ask.count;
+                let named = work.and_then(|work| work.branch(count));
+                self.branch_or_give_up(named)
+            }
+            step::READ => u32::from(self.read()),
+            step::WRITE => u32::from(self.write()),
+            step::UNLATCH => {
+                let slot = self.ask.slot;
+                self.table().put_in(slot);
+                0
+            }
+            _ => 0,
+        }
+    }
+
+    /// The page in the slot is latched: the work sees it, or changes it, and says what it answers
+    /// next.
+    fn show<W: Work + ?Sized>(&mut self, work: &mut W, slot: u32, latch: Latch) {
+        let mut pages = Pages::new(self.table());
+        match latch {
+            Latch::Exclusive => work.change(slot, &mut pages),
+            Latch::Shared => work.see(slot, &pages),
+        }
+        self.is_given_up |= self.table().take_given_up();
+        if !self.is_given_up {
+            self.ahead = work.ahead();
+        }
+    }
+
+    /// Makes the next step, or two by one call. Tells of a page that was latched.
+    fn step(&mut self, held: &mut Held<'p>, argument: u32) -> Result<Shown, Error> {
         let now = self.ask;
-        let mut held = self.pool.shared.hold();
         match now.step {
-            step::FIX if is_shown && self.get(&mut held, argument)? => {
-                return Ok(Some(Latch::Shared));
+            step::FIX if !self.is_given_up && self.get(held, argument)? => {
+                self.lend(held, now.slot, argument, Latch::Shared)?;
+                return Ok(Some((now.slot, Latch::Shared)));
             }
             step::UNLATCH => {
-                let was_mine = self.put_back(&mut held, now.slot);
-                if !was_mine && self.put(&mut held)? {
+                let was_mine = self.table().let_go(now.slot);
+                if !was_mine && self.put(held)? {
                     return Ok(None);
                 }
             }
             _ => {}
         }
-        let mut held = self.go(held, argument)?;
+        let argument = match now.step {
+            step::READ if argument == 1 => u32::from(self.came(held)),
+            _ => argument,
+        };
+        self.go(held, argument)?;
         let latch = match now.step {
-            step::LATCH_S if is_shown => Latch::Shared,
-            step::LATCH_X if is_shown => Latch::Exclusive,
+            step::LATCH_S if !self.is_given_up => Latch::Shared,
+            step::LATCH_X if !self.is_given_up => Latch::Exclusive,
             _ => return Ok(None),
         };
-        self.copy(&mut held, now, latch == Latch::Exclusive);
-        Ok(Some(latch))
+        self.lend(held, now.slot, now.page, latch)?;
+        Ok(Some((now.slot, latch)))
     }
 
-    /// Fixes the page, latches it S and copies it by one call, where that goes.
+    /// Fixes the page and latches it S by one call, where that goes.
     fn get(&mut self, held: &mut Held<'p>, page: u32) -> Result<bool, Error> {
-        let (slot, mut told) = (self.ask.slot, Told::NOBODY);
-        let body = self.room.pages.hold(slot, page, false);
+        let mut told = Told::NOBODY;
         let answer = unsafe {
+            let nothing: &mut [u8] = &mut [];
             ffi::pinpool_get(
-                &mut held.0,
+                held.handle(),
                 self.ticket,
                 page,
                 0,
-                body.as_mut_ptr(),
-                body.len(),
+                nothing.as_mut_ptr(),
+                0,
                 &mut self.ask,
                 &mut told,
             )
         };
-        self.pool.shared.ring(&told);
-        if answer != answer::DONE {
-            self.room.pages.let_go(slot);
-        }
+        held.tell(&told);
         self.is_done_at_once(answer)
     }
 
@@ -172,8 +308,8 @@ impl<'p, D: Device> Running<'p, D> {
     fn put(&mut self, held: &mut Held<'p>) -> Result<bool, Error> {
         let mut told = Told::NOBODY;
         let answer =
-            unsafe { ffi::pinpool_put(&mut held.0, self.ticket, &mut self.ask, &mut told) };
-        self.pool.shared.ring(&told);
+            unsafe { ffi::pinpool_put(held.handle(), self.ticket, &mut self.ask, &mut told) };
+        held.tell(&told);
         self.is_done_at_once(answer)
     }
 
@@ -182,34 +318,63 @@ impl<'p, D: Device> Running<'p, D> {
         match answer {
             answer::DONE => Ok(true),
             answer::NOT_AT_ONCE => Ok(false),
-            _ => {
-                self.is_broken = true;
-                Err(Error::Broken)
-            }
+            _ => Err(self.broken()),
         }
     }
 
     /// Makes the step, once it is possible.
-    fn go(&mut self, held: Held<'p>, argument: u32) -> Result<Held<'p>, Error> {
-        let (mut held, mut told) = (held, Told::NOBODY);
+    fn go(&mut self, held: &mut Held<'p>, argument: u32) -> Result<(), Error> {
+        let mut told = Told::NOBODY;
         loop {
             let answer = unsafe {
-                ffi::pinpool_go(&mut held.0, self.ticket, argument, &mut self.ask, &mut told)
+                ffi::pinpool_go(
+                    held.handle(),
+                    self.ticket,
+                    argument,
+                    &mut self.ask,
+                    &mut told,
+                )
             };
-            self.pool.shared.ring(&told);
+            held.tell(&told);
             match answer {
-                answer::DONE => return Ok(held),
-                answer::NOT_NOW => held = self.pool.shared.sleep(held, self.ticket),
-                _ => {
-                    self.is_broken = true;
-                    return Err(Error::Broken);
-                }
+                answer::DONE => return Ok(()),
+                answer::NOT_NOW => held.sleep(self.ticket),
+                _ => return Err(self.broken()),
             }
         }
     }
 
-    /// The page that the work names; the first one where it gives up.
-    fn page<W: Work + ?Sized>(&mut self, work: Option<&mut W>) -> u32 {
+    /// The page in the slot was latched: from now on the work finds it where the pool keeps it.
+    fn lend(
+        &mut self,
+        held: &mut Held<'p>,
+        slot: u32,
+        page: u32,
+        latch: Latch,
+    ) -> Result<(), Error> {
+        let mut lent = Lent {
+            bytes: null_mut(),
+            length: 0,
+        };
+        match unsafe { ffi::pinpool_lend(held.handle(), self.ticket, slot, &mut lent) } {
+            answer::DONE => {
+                let (is_mine, body) = (latch == Latch::Exclusive, (lent.bytes, lent.length));
+                // SAFETY: the page stays there until its latch is taken off, and before that its
+                // slot is let go, or the table is cleared.
+                unsafe { self.table().hold(slot, page, is_mine, body) };
+                Ok(())
+            }
+            _ => Err(self.broken()),
+        }
+    }
+
+    fn broken(&mut self) -> Error {
+        self.is_broken = true;
+        Error::Broken
+    }
+
+    /// What the work is asked where a page is to be fixed or gathered.
+    fn fix(&self) -> Fix {
         let Ask {
             step,
             slot,
@@ -218,27 +383,27 @@ impl<'p, D: Device> Running<'p, D> {
             count,
             ..
         } = self.ask;
-        let pages = first..first.saturating_add(count);
-        let kind = if step == step::FIX {
-            Kind::Fix
-        } else {
-            Kind::Gather
-        };
-        let named = work.and_then(|work| {
-            work.page(Fix {
-                slot,
-                region,
-                pages: pages.clone(),
-                kind,
-            })
-        });
-        self.or_give_up(named.filter(|page| pages.contains(page)), first)
+        Fix {
+            slot,
+            region,
+            pages: first..first.saturating_add(count),
+            kind: if step == step::FIX {
+                Kind::Fix
+            } else {
+                Kind::Gather
+            },
+        }
+    }
+
+    /// The page that the work names; the first one where it gives up.
+    fn page_or_give_up(&mut self, named: Option<u32>) -> u32 {
+        let Ask { first, count, .. } = self.ask;
+        self.or_give_up(named.filter(|page| page.wrapping_sub(first) < count), first)
     }
 
     /// The branch that the work names; the last one where it gives up.
-    fn branch<W: Work + ?Sized>(&mut self, work: Option<&mut W>) -> u32 {
+    fn branch_or_give_up(&mut self, named: Option<u32>) -> u32 {
         let count = self.ask.count;
-        let named = work.and_then(|work| work.branch(count));
         self.or_give_up(
             named.filter(|branch| *branch < count),
             count.saturating_sub(1),
@@ -250,53 +415,34 @@ impl<'p, D: Device> Running<'p, D> {
         named.unwrap_or(otherwise)
     }
 
-    /// Has the device read the page, and hands in what came.
+    /// Has the device read the page.
     fn read(&mut self) -> bool {
-        let image = &mut self.room.image;
-        self.pool.device().read(self.ask.page, image).is_ok() && {
-            let mut held = self.pool.shared.hold();
-            answer::DONE
-                == unsafe {
-                    ffi::pinpool_came(&mut held.0, self.ticket, image.as_ptr(), image.len())
-                }
-        }
+        let (pool, page) = (self.pool, self.ask.page);
+        let image = self.room().image(pool.page_bytes());
+        pool.device().read(page, image).is_ok()
+    }
+
+    /// Hands in what the device has read.
+    fn came(&mut self, held: &mut Held<'p>) -> bool {
+        let (ticket, page_bytes) = (self.ticket, self.pool.page_bytes());
+        let image = self.room().image(page_bytes);
+        answer::DONE
+            == unsafe { ffi::pinpool_came(held.handle(), ticket, image.as_ptr(), image.len()) }
     }
 
     /// Has the device write the page that makes room.
     fn write(&mut self) -> bool {
-        let image = &mut self.room.image;
-        self.pool.write_image(self.ticket, self.ask.page, image)
+        let (pool, ticket, page) = (self.pool, self.ticket, self.ask.page);
+        pool.write_image(ticket, page, self.room().image(pool.page_bytes()))
     }
 
-    /// Copies the page that was latched.
-    fn copy(&mut self, held: &mut Held<'p>, latched: Ask, is_mine: bool) {
-        let body = self.room.pages.hold(latched.slot, latched.page, is_mine);
-        let copied = unsafe {
-            ffi::pinpool_read(
-                &mut held.0,
-                self.ticket,
-                latched.slot,
-                0,
-                body.as_mut_ptr(),
-                body.len(),
-            )
-        };
-        debug_assert_eq!(copied, answer::DONE);
-    }
-
-    /// The slot is about to be unlatched: what is in its body becomes the page, unless the work has
-    /// given up. Tells whether it was latched X.
-    fn put_back(&mut self, held: &mut Held<'p>, slot: u32) -> bool {
-        let mine = self.room.pages.mine(slot);
-        let is_mine = mine.is_some();
-        if let Some(body) = mine.filter(|_| !self.is_given_up) {
-            let put = unsafe {
-                ffi::pinpool_write(&mut held.0, self.ticket, slot, 0, body.as_ptr(), body.len())
-            };
-            debug_assert_eq!(put, answer::DONE);
+    /// The plan has ended: its room is the next one's in the chair. (The chair went home under this
+    /// hold, so nobody looked for it yet.)
+    fn end(&mut self, held: &mut Held<'p>) {
+        if let Some(mut room) = self.room.take() {
+            room.table.clear();
+            held.raw().give_room(self.ticket, room);
         }
-        self.room.pages.let_go(slot);
-        is_mine
     }
 }
 
@@ -304,18 +450,9 @@ impl<D: Device> Drop for Running<'_, D> {
     fn drop(&mut self) {
         self.is_given_up |= !self.is_over();
         while !self.is_over() {
-            if self.turn::<dyn Work>(None).is_err() {
+            if self.turn::<dyn Work>(None, None).is_err() {
                 break;
             }
         }
-        let mut room = std::mem::replace(
-            &mut self.room,
-            Room {
-                pages: Pages::new(0),
-                image: Vec::new(),
-            },
-        );
-        room.pages.clear();
-        self.pool.give_room(self.ticket, room);
     }
 }

@@ -26,6 +26,15 @@ pub struct Fix {
     pub kind: Kind,
 }
 
+/// What a work answers next, as far as it knows that before it is asked.
+#[derive(Clone, Copy, Debug, Default, PartialEq, Eq)]
+pub struct Ahead {
+    /// The branch to take where a choice comes next, as by [`Work::branch`].
+    pub branch: Option<u32>,
+    /// The page where a fix comes next, be it behind that choice, as by [`Work::page`].
+    pub page: Option<u32>,
+}
+
 /// What a thread does with the pages of its plan, and which way it takes where the plan leaves that
 /// open.
 ///
@@ -45,10 +54,22 @@ pub trait Work {
         None
     }
 
-    /// The page in the slot was latched S.
+    /// What the work answers to the next choice and to the next fix, if it knows that by now. It is
+    /// asked before the plan begins, and behind each call in which it has seen or changed a page. A
+    /// work isn't asked again what it has said ahead; what no statement wants before the next page is
+    /// latched is forgotten.
+    ///
+    /// A plan runs as well without it, but it takes the pool's lock more often: once more for each
+    /// choice, and for each fix behind one.
+    fn ahead(&mut self) -> Ahead {
+        Ahead::default()
+    }
+
+    /// The page in the slot was latched S. It is read where the pool keeps it.
     fn see(&mut self, _slot: u32, _pages: &Pages) {}
 
     /// The page in the slot was latched X. What stands in its body when the latch is taken off, is
-    /// the page from then on. Until then it can still be changed, in the call for another slot.
+    /// the page from then on. Until then it can still be changed, in the call for another slot. It
+    /// is copied at its first change, and read where the pool keeps it before.
     fn change(&mut self, _slot: u32, _pages: &mut Pages) {}
 }

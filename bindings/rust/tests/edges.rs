@@ -3,7 +3,8 @@
 //! that can't be closed.
 
 use pinpool::{
-    Device, Error, Failure, Fix, Kind, MemoryPages, PageFile, Pages, Policy, Pool, Prepared, Work,
+    Ahead, Device, Error, Failure, Fix, Kind, MemoryPages, PageFile, Pages, Policy, Pool, Prepared,
+    Work,
 };
 use std::io;
 use std::panic::{catch_unwind, AssertUnwindSafe};
@@ -370,6 +371,87 @@ fn bundles_and_branches() {
         assert_eq!(gathering.seen, kinds);
     }
     assert_eq!((pool.stats().done, pool.stats().gone), (2, 1));
+}
+
+/// Says all ahead that it knows, and isn't asked for it again.
+struct Foretelling {
+    branch: u32,
+    page: u32,
+    seen: u32,
+}
+
+impl Work for Foretelling {
+    fn page(&mut self, fix: Fix) -> Option<u32> {
+        panic!("it was said ahead, and {} is asked", fix.slot);
+    }
+
+    fn ahead(&mut self) -> Ahead {
+        Ahead {
+            branch: Some(self.branch),
+            page: Some(self.page),
+        }
+    }
+
+    fn see(&mut self, slot: u32, pages: &Pages) {
+        self.seen += 1;
+        assert_eq!(pages.page(slot), Some(7));
+    }
+}
+
+#[test]
+fn what_is_said_ahead_counts_as_answered() {
+    let pool = Pool::open(&settings(1, 1000), POLICY, MemoryPages::new(8, 512)).unwrap();
+    let choice = r#"{"version":1,"body":[{"choice":[[],
+        [{"fix":"s","region":"top"},{"latch":"s","mode":"S"},{"unlatch":"s"},{"unfix":"s"}]]}]}"#;
+    let plan = pool.prepare(choice).unwrap();
+    let run = |branch, page| {
+        let mut work = Foretelling {
+            branch,
+            page,
+            seen: 0,
+        };
+        (pool.execute(&plan, &mut work), work.seen)
+    };
+    assert_eq!(run(0, 7), (Ok(()), 0));
+    assert_eq!(run(1, 7), (Ok(()), 1)); // which has to be read
+    assert_eq!(run(1, 7), (Ok(()), 1)); // and is there now
+    assert_eq!(run(2, 7), (Err(Error::GivenUp), 0));
+    assert_eq!(run(1, 3), (Err(Error::GivenUp), 0)); // of another region
+    let stats = pool.stats();
+    assert_eq!((stats.done, stats.gone, stats.hits), (3, 2, 1)); // who gives up doesn't read
+}
+
+/// Sees what was, while it changes a page in two calls.
+struct Twice;
+
+impl Work for Twice {
+    fn page(&mut self, fix: Fix) -> Option<u32> {
+        Some(fix.pages.start)
+    }
+
+    fn change(&mut self, slot: u32, pages: &mut Pages) {
+        assert_eq!(pages[slot][0], 0);
+        if slot == 1 {
+            assert_eq!(pages[0][..2], [4, 0]);
+            let (low, top) = pages.two_mut(0, 1).unwrap();
+            (low[1], top[0]) = (5, 6);
+            let (top, low) = pages.two_mut(1, 0).unwrap();
+            assert_eq!((low[..2].to_vec(), top[0]), (vec![4, 5], 6));
+            assert!(pages.two_mut(1, 1).is_none());
+        } else {
+            pages[slot][0] = 4;
+        }
+    }
+}
+
+#[test]
+fn a_page_is_changed_in_several_calls() {
+    let failing = Failing::new();
+    let (pool, _one, two) = opened(&failing);
+    pool.execute(&two, &mut Twice).unwrap();
+    pool.close().unwrap();
+    assert_eq!(failing.pages.body(0)[..2], [4, 5]);
+    assert_eq!(failing.pages.body(4)[0], 6);
 }
 
 /// Stays in its plan until somebody else has come twice.

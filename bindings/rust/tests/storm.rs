@@ -1,8 +1,9 @@
 // SPDX-License-Identifier: Apache-2.0
 //! More threads than chairs move ones between pages, while the device fails now and then and works
-//! give up. Each move is done whole or not at all, so in the end all pages sum up to nothing.
+//! give up. Each move is done whole or not at all, so in the end all pages sum up to nothing. Behind
+//! each move its thread looks at two pages: each has its number twice, and both are the same.
 
-use pinpool::{Device, Error, Fix, MemoryPages, Pages, Policy, Pool, Work};
+use pinpool::{Ahead, Device, Error, Fix, MemoryPages, Pages, Policy, Pool, Work};
 use std::io;
 use std::sync::atomic::{AtomicBool, AtomicU64, Ordering};
 use std::thread;
@@ -28,6 +29,9 @@ class = 2
 const PLAN: &str = r#"{"version":1,"body":[
     {"fix":"b","region":"top"},{"latch":"b","mode":"X"},{"fix":"a","region":"low"},{"latch":"a","mode":"X"},
     {"unlatch":"a"},{"unfix":"a"},{"unlatch":"b"},{"unfix":"b"}]}"#;
+const LOOK: &str = r#"{"version":1,"body":[
+    {"fix":"b","region":"top"},{"latch":"b","mode":"S"},{"fix":"a","region":"low"},{"latch":"a","mode":"S"},
+    {"unlatch":"b"},{"unfix":"b"},{"unlatch":"a"},{"unfix":"a"}]}"#;
 
 fn below(seed: &mut u64, many: u32) -> u32 {
     *seed ^= *seed << 13;
@@ -75,7 +79,9 @@ struct Move {
 
 fn add(body: &mut [u8], number: i64) {
     let sum = number_of(body) + number;
+    let last = body.len() - 8;
     body[..8].copy_from_slice(&sum.to_le_bytes());
+    body[last..].copy_from_slice(&sum.to_le_bytes());
 }
 
 fn number_of(body: &[u8]) -> i64 {
@@ -103,12 +109,43 @@ impl Work for Move {
     }
 }
 
+/// Looks at a top page and a low one, and says the pages ahead by turns.
+struct Look {
+    seed: u64,
+    seen: u32,
+}
+
+impl Work for Look {
+    fn page(&mut self, fix: Fix) -> Option<u32> {
+        Some(fix.pages.start + below(&mut self.seed, fix.pages.len() as u32))
+    }
+
+    fn ahead(&mut self) -> Ahead {
+        let first = if self.seen % 2 == 0 { 8 } else { 0 };
+        let page = first + below(&mut self.seed, 8);
+        Ahead {
+            branch: None,
+            page: (below(&mut self.seed, 2) == 0).then_some(page),
+        }
+    }
+
+    fn see(&mut self, slot: u32, pages: &Pages) {
+        self.seen += 1;
+        let last = pages[slot].len() - 8;
+        assert_eq!(pages[slot][..8], pages[slot][last..]);
+        if slot == 0 {
+            assert!(pages.page(1).is_some() && pages.body(1).is_some());
+        }
+    }
+}
+
 /// One thread's moves: how many were done, gone and given up.
 fn moves<D: Device>(pool: &Pool<D>, number: u64) -> [i64; 3] {
     let mut work = Move {
         seed: 88_172_645_463_325_252 + number,
     };
     let plan = pool.prepare(PLAN).expect("it is accepted");
+    let look = pool.prepare(LOOK).expect("it is accepted");
     let mut ends = [0; 3];
     for _ in 0..200 {
         let end = match pool.execute(&plan, &mut work) {
@@ -118,6 +155,11 @@ fn moves<D: Device>(pool: &Pool<D>, number: u64) -> [i64; 3] {
             Err(error) => panic!("{error}"),
         };
         ends[end] += 1;
+        let (seed, seen) = (work.seed, 0);
+        match pool.execute(&look, &mut Look { seed, seen }) {
+            Ok(()) | Err(Error::Gone { .. }) => {}
+            Err(error) => panic!("{error}"),
+        }
     }
     ends
 }

@@ -1,9 +1,8 @@
 //! The pool, which threads share by reference.
 
-ghost use Rattle.std.specs.Prelude.{◌≡◌, ◌⊎◌, ◌+◌, ◌*◌, ◌≤◌, IfOk, IfErr, vec_len, length};
+ghost use Rattle.std.specs.Prelude.{◌≡◌, ◌+◌, ◌*◌, ◌≤◌, None, IfOk, IfErr, OnOk, vec_len, length};
 ghost use Rattle.pp_cert.specs.Limits.{step_events, plan_events};
-ghost use Rattle.pp_hall.specs.declared.error.OpenError.TheVariants.{OutOfMemory};
-ghost use Rattle.pp_hall.specs.Calls.{OpenFails};
+ghost use Rattle.pp_hall.specs.Calls.{OpenFails, open_fault};
 ghost use Rattle.pp_buffer_pool.specs.Halls.{StatsOfSome, DirtyInSome, RefusesSome, ClosesSome, KeepsSome, AbandonsSome};
 
 use crate::bells::Bells;
@@ -57,21 +56,21 @@ impl<D: Device + Drop> BufferPool<D> {
     ///
     /// # Errors
     ///
-    /// The devices come back. [`OpenError::OutOfMemory`]; else the first of these that is so:
-    ///
-    /// - [`OpenError::Bounded`]: the settings' life isn't endless.
-    /// - [`OpenError::NoFlushes`]: no flush may begin, and such a pool could not be closed.
-    /// - [`OpenError::TooManyWorkers`]: there are more than 32 workers.
-    /// - [`OpenError::OtherEnds`]: there isn't one device for each chair, and one more.
+    /// The devices come back, with the first fault of the settings ([`OpenError::of`]; a pool of which no page may be
+    /// flushed could not be closed), or else with [`OpenError::OutOfMemory`].
     pub fn open(
         alloc: Global,
         settings: &Settings,
         policy: Policy,
         devices: Vec<D>,
     ) -> Result<BufferPool<D>, (OpenError, Vec<D>)>
-        ensures error { IfErr result (λ e. OpenFails settings.now (vec_len devices) e.0 ⊎ (e.0 ≡ OutOfMemory)) }
+        ensures fits { OnOk result (open_fault settings.now (vec_len devices) ≡ None) }
+        ensures error { IfErr result (λ e. OpenFails settings.now (vec_len devices) e.0) }
         ensures back { IfErr result (λ e. e.1 ≡ devices) }
     {
+        if let Some(fault) = OpenError::of(settings, devices.len()) {
+            return Err((fault, devices));
+        }
         let Ok(bells) = Bells::new(alloc, settings.workers()) else {
             return Err((OpenError::OutOfMemory, devices));
         };

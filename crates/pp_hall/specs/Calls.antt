@@ -75,12 +75,13 @@ abbrev pub open_fault : Configuration → (devices : ℕ) → Option OpenError
 open_fault c devices =
     fault_by (is_bounded c.span) (c.flushes == 0) (nat_lt 32 c.workers) (devices == c.workers + 1)
 
--- So a hall isn't opened, or memory ran out.
+-- This is the error: the first fault; or there is none, and memory ran out.
 abbrev pub OpenFails : Configuration → (devices : ℕ) → OpenError → Type 0
 OpenFails c devices error =
     (open_fault c devices ≡ Some error) ⊎ ((open_fault c devices ≡ None) × (error ≡ OutOfMemory))
 
--- Nothing was done yet, each chair is home, with its worker, and the flusher, and nobody waits.
+-- Nothing was done yet, each chair is home, with its worker, and the flusher, and nobody waits. Its pages are as long as the settings
+-- say, and it has this policy.
 pub record IsFresh (c : Configuration) (kept : Policy) (h : Parts) : Type 0 where
   pub opens : StandsFor h.seating.vault (opening (kept_of c))
   pub page_bytes : h.seating.vault.page_bytes ≡ c.page_bytes
@@ -207,7 +208,7 @@ pub record Reads (old : Parts) (x : Session) (page : ℕ) (y : Session) (h : Rea
   }
   pub settles : Settles (record old { seating = seating; waiters = with_place old.waiters (Some x.worker) None }) told new
 
--- A latch S was taken off, and its page unfixed: two moves.
+-- A latch S was taken off, and its page unfixed: two moves. (Its worker's place stays: one whose plan asks an unlatch doesn't sleep.)
 pub record EndsRead (old : Parts) (x : Session) (g : ReadGuard) (y : Session) (mark : ℕ) (told : Told) (new : Parts)
     : Type 0 where
   pub seating : seatings.Parts

@@ -1,5 +1,14 @@
 //! Why a hall isn't opened or closed, and why one doesn't come to its queue.
 
+ghost use Rattle.std.specs.Prelude.{◌≡◌};
+ghost use Rattle.pp_settings.specs.declared.span.Span.TheVariants.{Bounded};
+ghost use Rattle.pp_hall.specs.Calls.{open_fault};
+
+use pp_settings::{Settings, Span};
+
+/// How many workers a hall has at most: a call tells whom it helps by a bit for each ([`crate::Told`]).
+const MOST_WORKERS: u32 = 32;
+
 /// Why a hall isn't opened.
 #[derive(Clone, Copy, Debug, PartialEq, Eq, thiserror::Error)]
 pub enum OpenError {
@@ -18,6 +27,34 @@ pub enum OpenError {
     /// The settings have more than 32 workers.
     #[error("more than 32 workers")]
     TooManyWorkers,
+}
+
+impl OpenError {
+    /// The first fault that these settings have, with so many devices, in this order:
+    ///
+    /// - [`OpenError::Bounded`]: the life of the settings isn't endless.
+    /// - [`OpenError::NoFlushes`]: no flush may begin.
+    /// - [`OpenError::TooManyWorkers`]: there are more than 32 workers.
+    /// - [`OpenError::OtherEnds`]: there isn't one device for each worker and one for the flusher.
+    ///
+    /// Where there is none, a hall is opened, or memory runs out.
+    pub fn of(settings: &Settings, devices: usize) -> Option<OpenError>
+        ensures { result ≡ open_fault settings.now devices }
+    {
+        if settings.span() == Span::Bounded {
+            return Some(OpenError::Bounded);
+        }
+        if settings.flushes() == 0 {
+            return Some(OpenError::NoFlushes);
+        }
+        if settings.workers() > MOST_WORKERS {
+            return Some(OpenError::TooManyWorkers);
+        }
+        if devices != settings.workers() as usize + 1 {
+            return Some(OpenError::OtherEnds);
+        }
+        None
+    }
 }
 
 /// Why one doesn't come to the queue.

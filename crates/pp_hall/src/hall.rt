@@ -2,7 +2,6 @@
 
 ghost use Rattle.std.specs.Prelude.{◌≡◌, ◌+◌, ◌<◌, ◌≤◌, ◌&&◌, not, true, false, None, Some, is_ok, is_some, is_none};
 ghost use Rattle.std.specs.Prelude.{count_by, IfOk, IfErr, IfSome, OnOk, OnErr, vec_len, length, min, ◌^◌, ◌-◌};
-ghost use Rattle.pp_settings.specs.declared.span.Span.TheVariants.{Bounded};
 ghost use Rattle.pp_core.specs.Submits.{PrepareFails};
 ghost use Rattle.pp_model.specs.Pool.{State, dirty_pages};
 ghost use Rattle.pp_device.specs.Image.{head_of};
@@ -35,7 +34,7 @@ use pp_admission::Ticket;
 use pp_core::{PrepareError, Prepared};
 use pp_device::Device;
 use pp_pool::{Flusher, Request, Response, Site};
-use pp_settings::{Settings, Span};
+use pp_settings::Settings;
 use pp_vault::{Accepted, Chair, ReadGuard, Session, Stage};
 use pp_wants::Want;
 use std::alloc::Global;
@@ -112,13 +111,8 @@ impl<D: Device + Drop> Hall<D> {
     ///
     /// # Errors
     ///
-    /// The devices come back, with the first of these that is so.
-    ///
-    /// - [`OpenError::Bounded`]: the life of the settings isn't endless.
-    /// - [`OpenError::NoFlushes`]: no flush may begin.
-    /// - [`OpenError::TooManyWorkers`]: there are more than 32 workers.
-    /// - [`OpenError::OtherEnds`]: there isn't one device for each worker and one for the flusher.
-    /// - [`OpenError::OutOfMemory`]: memory ran out.
+    /// The devices come back, with the first fault of the settings ([`OpenError::of`]), or else with
+    /// [`OpenError::OutOfMemory`].
     pub fn open(
         alloc: Global,
         settings: &Settings,
@@ -126,10 +120,11 @@ impl<D: Device + Drop> Hall<D> {
         devices: Vec<D>,
     ) -> Result<Hall<D>, (OpenError, Vec<D>)>
         ensures fresh { IfOk result (λ hall. IsFresh settings.now policy hall) }
+        ensures fits { OnOk result (open_fault settings.now (vec_len devices) ≡ None) }
         ensures error { IfErr result (λ e. OpenFails settings.now (vec_len devices) e.0) }
         ensures back { IfErr result (λ e. e.1 ≡ devices) }
     {
-        match open_fault(settings, devices.len()) {
+        match OpenError::of(settings, devices.len()) {
             Some(error) => Err((error, devices)),
             None => opened(alloc, settings, policy, devices),
         }
@@ -468,25 +463,6 @@ impl<D: Device + Drop> Hall<D> {
     {
         stats_of(&self.seating, &self.waiters)
     }
-}
-
-/// Why a hall isn't opened, but for want of memory.
-fn open_fault(settings: &Settings, devices: usize) -> Option<OpenError>
-    ensures { result ≡ open_fault settings.now devices }
-{
-    if settings.span() == Span::Bounded {
-        return Some(OpenError::Bounded);
-    }
-    if settings.flushes() == 0 {
-        return Some(OpenError::NoFlushes);
-    }
-    if settings.workers() > 32 {
-        return Some(OpenError::TooManyWorkers);
-    }
-    if devices != settings.workers() as usize + 1 {
-        return Some(OpenError::OtherEnds);
-    }
-    None
 }
 
 /// A hall with these settings, which have none of the faults.

@@ -52,7 +52,7 @@ use Rattle.pp_pool_c.specs.declared.refusal.Refusal.TheVariants.{NotText, Settin
 use Rattle.pp_pool_c.specs.declared.told.Told.{Told}
 use Rattle.pp_pool_c.specs.Answers.{code, of_done, is_refusal}
 use Rattle.pp_pool_c.specs.Calls as calls
-use Rattle.pp_pool_c.specs.Calls.{Goes, BringsTo, CameTo, pass_of, Makes, Begins, GoesAway, Comes, EnterIs, GivesFlusher, Wishes, IsntKept, Prepares, GetsBy, PutsBy}
+use Rattle.pp_pool_c.specs.Calls.{Goes, BringsTo, CameTo, pass_of, Makes, StartsBy, GoesAway, Comes, EnterIs, GivesFlusher, Wishes, IsntKept, Prepares, GetsBy, PutsBy}
 use Rattle.pp_pool_c.specs.Calls.{answer_of, at_once_answer, start_answer, leave_answer, enter_answer, wish_answer}
 use Rattle.pp_pool_c.specs.Figures.{AreListed, dirty_of}
 use Rattle.pp_pool_c.specs.Texts.{same, is_memory, fault_of, answer_to, answer_by, fault_after, fault_by, IsTold}
@@ -263,36 +263,43 @@ step_stays pass argument answered ask told old new h e =
     go_stays (is_flushers old pass) old pass argument h.went h.rings new h.goes (sym (ap is_refusal h.answer_is) ∙ e)
 
 -- a reading that was begun or ended
+done_at_once : (got : Result Step AtOnceError) (step : Step) → got ≡ Ok step → at_once_answer got ≡ answer.Done
+done_at_once got step is = ap at_once_answer is
+
+-- where it wasn't, the pool and the bytes stay
+abbrev Stays : (before after : List ℕ) → (old new : Parts) → Type 0
+Stays before after old new = (new ≡ old) × (after ≡ before)
+
 gets_if : (lies : Bool) (old : Parts) (pass : Pass) (s : Seated) (page from : ℕ) (before : List ℕ) (got : Result Step AtOnceError)
     (rings : Rings) (after : List ℕ) (new : Parts) → GetsIf lies old pass s page from before got rings after new
-    → is_refusal (at_once_answer got) ≡ true → new ≡ old
-gets_if false old pass s page from before got rings after new h e = h.0.same
-gets_if true old pass s page from before got rings after new (inl h) e =
-    absurd (isnt at_once_answer got _ h.result_is refl e)
-gets_if true old pass s page from before got rings after new (inr h) e = h.1.same
+    → (at_once_answer got ≡ answer.Done → ⊥) → Stays before after old new
+gets_if false old pass s page from before got rings after new h n = (h.0.same, h.1)
+gets_if true old pass s page from before got rings after new (inl h) n = absurd (n (done_at_once got h.begun.step h.result_is))
+gets_if true old pass s page from before got rings after new (inr h) n = (h.1.same, h.2)
 
 get_is : (seated : Option Seated) (old : Parts) (pass : Pass) (page from : ℕ) (before : List ℕ) (got : Result Step AtOnceError)
     (rings : Rings) (after : List ℕ) (new : Parts) → GetIs seated old pass page from before got rings after new
-    → is_refusal (at_once_answer got) ≡ true → new ≡ old
-get_is None old pass page from before got rings after new h e = h.0.same
-get_is (Some s) old pass page from before got rings after new h e =
-    gets_if (lies_in old.hall.seating.vault.page_bytes from (length before)) old pass s page from before got rings after new h e
+    → (at_once_answer got ≡ answer.Done → ⊥) → Stays before after old new
+get_is None old pass page from before got rings after new h n = (h.0.same, h.1)
+get_is (Some s) old pass page from before got rings after new h n =
+    gets_if (lies_in old.hall.seating.vault.page_bytes from (length before)) old pass s page from before got rings after new h n
 
 pub get_stays : (pass : Pass) (page from : ℕ) (before : List ℕ) (answered : Answer) (after : List ℕ) (ask : Ask) (told : Told)
-    (old new : Parts) → GetsBy pass page from before answered after ask told old new → is_refusal answered ≡ true → new ≡ old
-get_stays pass page from before answered after ask told old new h e =
-    get_is (seated_at old.seats pass) old pass page from before h.got h.rings after new h.gets (sym (ap is_refusal h.answer_is) ∙ e)
+    (old new : Parts) → GetsBy pass page from before answered after ask told old new → (answered ≡ answer.Done → ⊥)
+    → Stays before after old new
+get_stays pass page from before answered after ask told old new h n =
+    get_is (seated_at old.seats pass) old pass page from before h.got h.rings after new h.gets (λ e. n (h.answer_is ∙ e))
 
 put_is : (seated : Option Seated) (old : Parts) (pass : Pass) (ended : Result Step AtOnceError) (rings : Rings) (new : Parts)
-    → PutIs seated old pass ended rings new → is_refusal (at_once_answer ended) ≡ true → new ≡ old
-put_is None old pass ended rings new h e = h.same
-put_is (Some s) old pass ended rings new (inl h) e = absurd (isnt at_once_answer ended _ h.result_is refl e)
-put_is (Some s) old pass ended rings new (inr h) e = h.1.same
+    → PutIs seated old pass ended rings new → (at_once_answer ended ≡ answer.Done → ⊥) → new ≡ old
+put_is None old pass ended rings new h n = h.same
+put_is (Some s) old pass ended rings new (inl h) n = absurd (n (done_at_once ended h.ended.step h.result_is))
+put_is (Some s) old pass ended rings new (inr h) n = h.1.same
 
 pub put_stays : (pass : Pass) (answered : Answer) (ask : Ask) (told : Told) (old new : Parts) → PutsBy pass answered ask told old new
-    → is_refusal answered ≡ true → new ≡ old
-put_stays pass answered ask told old new h e =
-    put_is (seated_at old.seats pass) old pass h.ended h.rings new h.puts (sym (ap is_refusal h.answer_is) ∙ e)
+    → (answered ≡ answer.Done → ⊥) → new ≡ old
+put_stays pass answered ask told old new h n =
+    put_is (seated_at old.seats pass) old pass h.ended h.rings new h.puts (λ e. n (h.answer_is ∙ e))
 
 start_is : (old : Parts) (waiter : Waiter) (pass : Pass) (started : Result Pass GoError) (rings : Rings) (new : Parts)
     → StartIs old waiter pass started rings new → is_refusal (start_answer started) ≡ true → ⊥
@@ -308,7 +315,7 @@ start_of None old pass started rings new h e = h.same
 start_of (Some waiter) old pass started rings new h e = absurd (start_is old waiter pass started rings new h e)
 
 pub start_stays : (before after : ℕ) (answered : Answer) (told : Told) (old new : Parts)
-    → Begins before after answered told old new → is_refusal answered ≡ true → new ≡ old
+    → StartsBy before after answered told old new → is_refusal answered ≡ true → new ≡ old
 start_stays before after answered told old new h e =
     start_of (waiter_at old.line (pass_of before)) old (pass_of before) h.started h.rings new h.starts
     (sym (ap is_refusal h.answer_is) ∙ e)

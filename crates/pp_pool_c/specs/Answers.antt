@@ -16,6 +16,7 @@ use Rattle.pp_steps.specs.declared.error.PassError.{PassError}
 use Rattle.pp_steps.specs.declared.error.PassError.TheVariants as pass
 use Rattle.pp_steps.specs.declared.error.WhyOpen.{WhyOpen}
 use Rattle.pp_steps.specs.declared.error.WhyOpen.TheVariants as why
+use Rattle.pp_steps.specs.declared.lent.Lent.{Lent}
 use Rattle.pp_pool_c.specs.declared.answer.Answer.{Answer}
 use Rattle.pp_pool_c.specs.declared.answer.Answer.TheVariants as answer
 
@@ -92,10 +93,14 @@ abbrev pub of_done : Result (Unit {0}) PassError → Answer
 of_done (Ok u) = answer.Done
 of_done (Err e) = of_pass e
 
--- Whether a call was refused: for the ticket or the number that it was given, or as it can't be made at once.
+-- That of one that tells where bytes lie.
+abbrev pub of_lent : Result Lent PassError → Answer
+of_lent (Ok lent) = answer.Done
+of_lent (Err e) = of_pass e
+
+-- Whether a call was refused for the ticket or the number that it was given.
 abbrev pub is_refusal : Answer → Bool
 is_refusal answer.BadTicket = true
 is_refusal answer.WrongStep = true
 is_refusal answer.WrongArgument = true
-is_refusal answer.NotAtOnce = true
 is_refusal _ = false

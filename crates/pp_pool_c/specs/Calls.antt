@@ -1,5 +1,5 @@
 -- What calls from C do to the pool that a handle holds.
-use Rattle.std.specs.Prelude.{◌≡◌, ◌⊎◌, ◌/◌, ◌%◌, ℕ, Bool, List, Option, None, Some, Result, Ok, Err, IfErr, OnOk, OnErr, length}
+use Rattle.std.specs.Prelude.{◌≡◌, ◌⊎◌, ◌/◌, ◌%◌, ℕ, Bool, List, Option, None, Some, Result, Ok, Err, IfOk, IfErr, OnOk, OnErr, length}
 use Rattle.std.specs.Option.{MatchOption}
 use Rattle.pp_settings.specs.Settings.{Configuration, geometry_of}
 use Rattle.pp_settings.specs.Spelling.{IsText}
@@ -17,6 +17,7 @@ use Rattle.pp_steps.specs.declared.error.WhyOpen.{WhyOpen}
 use Rattle.pp_steps.specs.declared.flusher.FlushWish.{FlushWish}
 use Rattle.pp_steps.specs.declared.flusher.FlushWish.TheVariants as wish
 use Rattle.pp_steps.specs.declared.going.Went.{Went}
+use Rattle.pp_steps.specs.declared.lent.Lent.{Lent}
 use Rattle.pp_steps.specs.declared.pass.Pass.{Pass}
 use Rattle.pp_steps.specs.declared.plans.KeptPlan.{KeptPlan}
 use Rattle.pp_steps.specs.declared.rings.Rings.{Rings}
@@ -25,6 +26,7 @@ use Rattle.pp_steps.specs.declared.step.Step.{Step}
 use Rattle.pp_steps.specs.Calls.{Keeps, KeepFails, Enters, EnterFails, StartOf, GoIs, LeaveOf, HandsOut, IsntHandedOut, WishIs, next_of}
 use Rattle.pp_steps.specs.Bytes.{CopiesImage, errand_of, no_errand, Brings, ReadsBody, ReadFails, WritesBody, WriteFails}
 use Rattle.pp_steps.specs.Ending.{WhyOpenIs}
+use Rattle.pp_steps.specs.Lending.{LendsBody, LendFails}
 use Rattle.pp_steps.specs.Lines.{waiter_at}
 use Rattle.pp_steps.specs.Opening.{IsOpened, OpenFails}
 use Rattle.pp_steps.specs.Parts.{Parts, is_flushers}
@@ -39,7 +41,7 @@ use Rattle.pp_pool_c.specs.declared.figures.PreparedPlan.{PreparedPlan}
 use Rattle.pp_pool_c.specs.declared.handle.Kept.{Kept}
 use Rattle.pp_pool_c.specs.declared.refusal.Refusal.{Refusal}
 use Rattle.pp_pool_c.specs.declared.told.Told.{Told}
-use Rattle.pp_pool_c.specs.Answers.{code, of_pass, of_at_once, of_go, of_enter, of_keep, of_open, of_why, of_done}
+use Rattle.pp_pool_c.specs.Answers.{code, of_pass, of_at_once, of_go, of_enter, of_keep, of_open, of_why, of_done, of_lent}
 use Rattle.pp_pool_c.specs.Asks.{ask_of, ask_went, ask_next, no_ask, told_of, told_nobody}
 use Rattle.pp_pool_c.specs.Figures.{prepared_of}
 use Rattle.pp_pool_c.specs.Texts.{settings_in, IsTold}
@@ -104,7 +106,7 @@ next_answer (Err why) = of_pass why
 
 -- ---- readings
 
--- What one is answered that begins a reading or ends one.
+-- What one is answered that asks to begin a reading, or to end one.
 abbrev pub at_once_answer : Result Step AtOnceError → Answer
 at_once_answer (Ok step) = answer.Done
 at_once_answer (Err why) = of_at_once why
@@ -114,7 +116,7 @@ abbrev pub ask_at_once : Result Step AtOnceError → Parts → Pass → Ask
 ask_at_once (Ok step) x pass = ask_of step
 ask_at_once (Err why) x pass = ask_of_pass x pass
 
--- The one with this pass begins a reading, as the pool's own call does.
+-- The one with this pass asks to begin a reading, and is answered as by the pool's own call.
 pub record GetsBy (pass : Pass) (page from : ℕ) (before : List ℕ) (answered : Answer) (after : List ℕ) (ask : Ask) (told : Told)
     (old new : Parts) : Type 0 where
   pub got : Result Step AtOnceError
@@ -131,7 +133,7 @@ pub record GetsTo (ticket page from : ℕ) (before : List ℕ) (status : ℕ) (a
   pub gets : GetsBy (pass_of ticket) page from before answered after ask told old new
   pub status_is : status ≡ code answered
 
--- It ends one.
+-- It asks to end one.
 pub record PutsBy (pass : Pass) (answered : Answer) (ask : Ask) (told : Told) (old new : Parts) : Type 0 where
   pub ended : Result Step AtOnceError
   pub rings : Rings
@@ -140,6 +142,7 @@ pub record PutsBy (pass : Pass) (answered : Answer) (ask : Ask) (told : Told) (o
   pub ask_is : ask ≡ ask_at_once ended new pass
   pub told_is : told ≡ told_of rings
 
+-- The same of a ticket.
 pub record PutsTo (ticket status : ℕ) (ask : Ask) (told : Told) (old new : Parts) : Type 0 where
   pub answered : Answer
   pub puts : PutsBy (pass_of ticket) answered ask told old new
@@ -163,7 +166,7 @@ IsTicketAfter (Ok pass) old new = IsTicket pass new
 IsTicketAfter (Err why) old new = new ≡ ticket_left why old
 
 -- The pool starts the one with the ticket's pass, as its own call does.
-pub record Begins (before after : ℕ) (answered : Answer) (told : Told) (old new : Parts) : Type 0 where
+pub record StartsBy (before after : ℕ) (answered : Answer) (told : Told) (old new : Parts) : Type 0 where
   pub started : Result Pass GoError
   pub rings : Rings
   pub starts : StartOf (waiter_at old.line (pass_of before)) old (pass_of before) started rings new
@@ -174,7 +177,7 @@ pub record Begins (before after : ℕ) (answered : Answer) (told : Told) (old ne
 -- The same, with what comes next.
 pub record Starts (before after status : ℕ) (ask : Ask) (told : Told) (old new : Parts) : Type 0 where
   pub answered : Answer
-  pub begins : Begins before after answered told old new
+  pub begins : StartsBy before after answered told old new
   pub status_is : status ≡ code answered
   pub ask_is : ask ≡ ask_of_pass new (pass_of after)
 
@@ -369,6 +372,14 @@ pub record WritesTo (ticket slot from status : ℕ) (bytes : List ℕ) (old new 
   pub fails : IfErr done (λ why. WriteFails (seated_at old.seats (pass_of ticket)) old (pass_of ticket) slot from (length bytes) why)
   pub stays : OnErr done (new ≡ old)
   pub status_is : status ≡ code (of_done done)
+
+-- What one is answered that asks where a body lies. Where it isn't told, nothing is written.
+pub record LendsTo (ticket slot status : ℕ) (before after : Lent) (x : Parts) : Type 0 where
+  pub done : Result Lent PassError
+  pub lends : IfOk done (λ lent. (after ≡ lent) × LendsBody x (pass_of ticket) slot lent)
+  pub fails : IfErr done (LendFails (seated_at x.seats (pass_of ticket)) x (pass_of ticket) slot)
+  pub stays : OnErr done (after ≡ before)
+  pub status_is : status ≡ code (of_lent done)
 
 -- ---- the end
 

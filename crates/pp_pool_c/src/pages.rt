@@ -3,11 +3,11 @@
 ghost use Rattle.std.specs.Prelude.{◌≡◌, ◌≢◌, None, IfSome};
 ghost use Rattle.pp_pool_c.specs.declared.answer.Answer.TheVariants as answer;
 ghost use Rattle.pp_pool_c.specs.Answers.{code, of_done};
-ghost use Rattle.pp_pool_c.specs.Calls.{Goes, CopiesTo, CameTo, ReadsTo, WritesTo, pass_of};
+ghost use Rattle.pp_pool_c.specs.Calls.{Goes, CopiesTo, CameTo, ReadsTo, WritesTo, LendsTo, pass_of};
 
 use crate::answer::Answer;
 use crate::handle::{Handle, put, take};
-use pp_steps::{Pass, PassError};
+use pp_steps::{Lent, Pass, PassError};
 use std::alloc::Global;
 
 /// The status of a call by a pass.
@@ -103,6 +103,35 @@ pub extern "C" fn pinpool_write(
             let done = kept.steps.write(Pass::of(ticket), slot, from, bytes);
             put(handle, kept);
             status(done)
+        }
+    }
+}
+
+/// Tells where the body of the page in this slot lies.
+#[unsafe(no_mangle)]
+pub extern "C" fn pinpool_lend(
+    alloc: Global,
+    handle: &mut Handle,
+    ticket: u64,
+    slot: u32,
+    lent: &mut Lent,
+) -> u32
+    ensures null { handle.old.value ≡ None → (result ≡ code answer.NoPool) × (lent.new ≡ lent.old) }
+    ensures lends { IfSome handle.old.value (λ kept. LendsTo ticket slot result lent.old lent.new kept.steps) }
+    ensures unchanged { handle.new.value ≡ handle.old.value }
+{
+    match take(alloc, handle) {
+        None => Answer::NoPool.code(),
+        Some(mut kept) => {
+            let done = kept.steps.lend(Pass::of(ticket), slot);
+            put(handle, kept);
+            match done {
+                Ok(body) => {
+                    *lent = body;
+                    Answer::Done.code()
+                }
+                Err(error) => Answer::from(error).code(),
+            }
         }
     }
 }

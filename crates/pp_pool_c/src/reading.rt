@@ -1,9 +1,8 @@
 //! The calls by which pages that are cached are read, one call for two moves.
 
-ghost use Rattle.std.specs.Prelude.{◌≡◌, None, true, length};
-ghost use Rattle.pp_pool_c.specs.declared.answer.Answer.{Answer as AnAnswer};
+ghost use Rattle.std.specs.Prelude.{◌≡◌, ◌≢◌, None, length};
 ghost use Rattle.pp_pool_c.specs.declared.answer.Answer.TheVariants as answer;
-ghost use Rattle.pp_pool_c.specs.Answers.{code, is_refusal};
+ghost use Rattle.pp_pool_c.specs.Answers.{code};
 ghost use Rattle.pp_pool_c.specs.Asks.{no_ask, told_nobody};
 ghost use Rattle.pp_pool_c.specs.Calls.{Goes, at_once_answer, ask_at_once, GetsTo, GetsBy, PutsTo, PutsBy};
 
@@ -31,8 +30,8 @@ pub extern "C" fn pinpool_get(
         → (result ≡ code answer.NoPool) × (bytes.new ≡ bytes.old) × (ask.new ≡ no_ask) × (told.new ≡ told_nobody) }
     ensures gets { Goes (λ old new. GetsTo ticket page from bytes.old result bytes.new ask.new told.new old new)
         handle.old.value handle.new.value }
-    ensures unchanged { (why : AnAnswer) → is_refusal why ≡ true → result ≡ code why
-        → handle.new.value ≡ handle.old.value }
+    ensures unchanged { result ≢ code answer.Done → handle.new.value ≡ handle.old.value }
+    ensures bytes { result ≢ code answer.Done → bytes.new ≡ bytes.old }
     ensures long { length bytes.new ≡ length bytes.old }
 {
     *ask = Ask::none();
@@ -79,8 +78,7 @@ pub extern "C" fn pinpool_put(
     ensures null { handle.old.value ≡ None
         → (result ≡ code answer.NoPool) × (ask.new ≡ no_ask) × (told.new ≡ told_nobody) }
     ensures puts { Goes (λ old new. PutsTo ticket result ask.new told.new old new) handle.old.value handle.new.value }
-    ensures unchanged { (why : AnAnswer) → is_refusal why ≡ true → result ≡ code why
-        → handle.new.value ≡ handle.old.value }
+    ensures unchanged { result ≢ code answer.Done → handle.new.value ≡ handle.old.value }
 {
     *ask = Ask::none();
     *told = Told::nobody();

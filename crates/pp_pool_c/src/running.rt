@@ -8,7 +8,7 @@ ghost use Rattle.pp_pool_c.specs.declared.answer.Answer.TheVariants as answer;
 ghost use Rattle.pp_pool_c.specs.Answers.{code, is_refusal};
 ghost use Rattle.pp_pool_c.specs.Asks.{no_ask, told_nobody};
 ghost use Rattle.pp_pool_c.specs.Calls.{Goes, Answers, IsTicket, pass_of, ask_of_pass, next_answer, ticket_left};
-ghost use Rattle.pp_pool_c.specs.Calls.{Queues, Comes, Starts, Begins, Steps, Makes, Leaves, GoesAway};
+ghost use Rattle.pp_pool_c.specs.Calls.{Queues, Comes, Starts, StartsBy, Steps, Makes, Leaves, GoesAway};
 ghost use Rattle.pp_pool_c.specs.Calls.{HandsFlusher, GivesFlusher, FlushWanted, Wishes};
 
 use crate::answer::Answer;
@@ -96,7 +96,7 @@ pub extern "C" fn pinpool_start(
 
 /// Starts, where the ticket is the one that may.
 fn start(kept: &mut Kept, ticket: &mut u64, told: &mut Told) -> Answer
-    ensures begins { Begins ticket.old ticket.new result told.new kept.old.steps kept.new.steps }
+    ensures begins { StartsBy ticket.old ticket.new result told.new kept.old.steps kept.new.steps }
     ensures settings { kept.new.settings ≡ kept.old.settings }
 {
     let (started, rings) = kept.steps.start(Pass::of(*ticket));

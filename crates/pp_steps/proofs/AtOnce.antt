@@ -45,24 +45,6 @@ use Rattle.pp_steps.proofs.Halls.{steps_kept}
 use Rattle.pp_steps.proofs.Home.{changed_steps}
 use Rattle.pp_steps.proofs.Places.{Stands, seat_changed, seated_same}
 
--- ---- tokens
-
--- The place of the slot is free into which the plan fixes.
-free_at : (guards : List (Option Guard)) (a : Ask) → can_get guards a ≡ true → is_free guards (fix_slot a) ≡ true
-free_at guards (ask.Fix slot region) e = e
-free_at guards _ e = absurd (false≢true e)
-
-free_in : (guards : List (Option Guard)) (at : Stage) (x : Session) → at ≡ stage.In x → may_begin guards at ≡ true
-    → can_get guards x.ask ≡ true
-free_in guards at x is e = ap (may_begin guards) (sym is) ∙ e
-
--- The guard that comes is of that slot.
-pub got_free : (h h' : halls.Parts) (at at' : Stage) (page : ℕ) (got : ReadGuard) (told : Told) (guards : List (Option Guard))
-    → BeginsBy at h page got told h' at' → may_begin guards at ≡ true → is_free guards got.slot ≡ true
-got_free h h' at at' page got told guards b e =
-    subst (λ (k : ℕ). is_free guards k ≡ true) (sym (b.reads.reads.latches.same.0 ∙ b.reads.reads.fixes.2))
-    (free_at guards b.session.ask (free_in guards at b.session b.acts e))
-
 -- ---- what can be seen
 
 -- A slot that holds the page latched S holds it so.

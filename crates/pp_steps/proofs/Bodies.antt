@@ -1,6 +1,6 @@
 -- Bytes of bodies, guards that are taken out and put back, and bytes that one has who is seated.
 use Rattle.std.proofs.Common.{◌≡◌, ◌∙◌, ℕ, zero, suc, ◌+◌, ◌-◌, Bool, true, List, [], ◌∷◌, ◌++◌, length, take, drop, Option, Some, None, Result, Ok, Err, refl, sym, ap, subst, arith}
-use Rattle.std.specs.Prelude.{IfSome, IfErr, OnOk, slice_set}
+use Rattle.std.specs.Prelude.{IfSome, IfOk, IfErr, OnOk, slice_set}
 use Rattle.std.proofs.lemmas.List.{append-nil, drop-drop, set-set, take-append-drop}
 use Rattle.std.proofs.Math.Seq.{drop-length, take-length}
 use borrow.Rule.Slice.PartMut.{put_mid}
@@ -14,10 +14,12 @@ use Rattle.pp_vault.specs.declared.guards.WriteGuard.{WriteGuard}
 use Rattle.pp_vault.specs.Parts as vault
 use Rattle.pp_steps.specs.declared.error.PassError.{PassError}
 use Rattle.pp_steps.specs.declared.error.PassError.TheVariants as pass_error
+use Rattle.pp_steps.specs.declared.lent.Lent.{Lent}
 use Rattle.pp_steps.specs.declared.pass.Pass.{Pass}
 use Rattle.pp_steps.specs.declared.seats.Place.{Place}
 use Rattle.pp_steps.specs.declared.seated.Seated.{Seated}
 use Rattle.pp_steps.specs.Bytes.{Brings, CannotRead, CannotWrite, lies_in, part_of, with_part, with_bytes, ReadsGuard, ReadsShared, ReadsBody, WritesSlot, WritesSeat}
+use Rattle.pp_steps.specs.Lending.{LendsSlot, LendsBody, CannotLend}
 use Rattle.pp_steps.specs.Parts.{Parts}
 use Rattle.pp_steps.specs.Seats.{seated_at, with_seat}
 use Rattle.pp_steps.proofs.Places.{Stands, seat_changed, seated_same}
@@ -155,6 +157,30 @@ seat_read v inside places pass slot from count given bytes s r p read result k f
     subst (λ (o : Option (Result (Unit {0}) PassError)). IfSome o (HasRead v places pass slot from count bytes)) (sym is)
     (subst (λ (l : List ℕ). HasRead v places pass slot from count l read) (sym same)
     (r, k.there ∙ ap (λ q. Some q) (sym one), reads, why))
+
+-- Whether the body of a page of the one with this pass is lent.
+abbrev pub HasLent : vault.Parts → List (Place Seated) → Pass → (slot : ℕ) → Result Lent PassError → Type 0
+HasLent v places pass slot lent =
+    (s : Seated) × (seated_at places pass ≡ Some s)
+    × IfOk lent (LendsSlot v (placed s.worker.hand.guards slot))
+    × IfErr lent (λ e. (e ≡ pass_error.WrongStep) × CannotLend v (placed s.worker.hand.guards slot))
+
+pub seat_lent : (v : vault.Parts) (inside places : List (Place Seated)) (pass : Pass) (slot : ℕ) (s r : Seated) (p : Place Seated)
+    (lent : Result Lent PassError) (result : Option (Result Lent PassError)) → Stands inside places pass s p → p.seated ≡ Some r
+    → IfOk lent (LendsSlot v (placed r.worker.hand.guards slot))
+    → IfErr lent (λ e. (e ≡ pass_error.WrongStep) × CannotLend v (placed r.worker.hand.guards slot))
+    → result ≡ Some lent → IfSome result (HasLent v places pass slot)
+seat_lent v inside places pass slot s r p lent result k f lends why is =
+    let one : r ≡ s = seated_same inside places pass s r p k f in
+    subst (λ (o : Option (Result Lent PassError)). IfSome o (HasLent v places pass slot)) (sym is)
+    (r, k.there ∙ ap (λ q. Some q) (sym one), lends, why)
+
+-- The pool lends what one has who is seated in it.
+pub lent_in : (x now : Parts) (pass : Pass) (slot : ℕ) (lent : Result Lent PassError) → x ≡ now
+    → HasLent x.hall.seating.vault x.seats pass slot lent → IfOk lent (LendsBody now pass slot)
+lent_in x now pass slot (Ok one) same h =
+    subst (λ (y : Parts). LendsBody y pass slot one) same (record { seated = h.0; there = h.1; lends = h.2 })
+lent_in x now pass slot (Err e) same h = tt
 
 -- The same one, with these guards.
 abbrev pub guarded : Seated → List (Option Guard) → Seated

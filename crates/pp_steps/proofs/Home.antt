@@ -10,8 +10,6 @@ use Rattle.pp_vault.specs.declared.tokens.Chair.{Chair}
 use Rattle.pp_vault.specs.declared.stage.Hand.{Hand}
 use Rattle.pp_vault.specs.Stages.{is_chair, stage_worker}
 use Rattle.pp_settings.specs.Settings.{Configuration}
-use Rattle.pp_hall.specs.declared.error.OpenError.{OpenError as HallError}
-use Rattle.pp_hall.specs.declared.error.OpenError.TheVariants as hall_error
 use Rattle.pp_hall.specs.declared.policy.Policy.{Policy}
 use Rattle.pp_hall.specs.declared.told.Told.{Told}
 use Rattle.pp_hall.specs.Halls as halls
@@ -28,7 +26,6 @@ use Rattle.pp_steps.specs.Bytes.{Brings, BringsIf, reads, errand_at}
 use Rattle.pp_steps.specs.Calls.{StartOf, SeatsPost, SendsHome, LeaveOf, RunnerLeaves, ChairLeaves}
 use Rattle.pp_steps.specs.Lines as lines
 use Rattle.pp_steps.specs.Lines.{waiter_at}
-use Rattle.pp_steps.specs.Opening.{OpenFails, unopened}
 use Rattle.pp_steps.specs.Parts.{Parts, IsSteps, IsSeated, AreSeated, is_flushers}
 use Rattle.pp_steps.specs.Ringing.{AreRings}
 use Rattle.pp_steps.specs.Seats.{IsFree, who, seated_at, with_seat}
@@ -60,25 +57,6 @@ opened_steps c kept h plans line seats fresh free = record {
       ap length free ∙ length-replicate c.workers _
       ∙ sym (ap (λ s. length s.peaks) fresh.seating ∙ length-replicate c.workers _);
 }
-
-hall_fault : (c : Configuration) (devices : ℕ) (why : HallError) → hall.OpenFails c devices why
-    → devices ≡ c.workers + 1 → (why ≡ hall_error.OutOfMemory → ⊥) → hall.open_fault c (c.workers + 1) ≡ Some why
-hall_fault c devices why (inl e) all n = ap (λ d. hall.open_fault c d) (sym all) ∙ e
-hall_fault c devices why (inr e) all n = absurd (n e.1)
-
--- Its hall wasn't opened.
-pub unopened_fails : (c : Configuration) (kept : Policy) (devices : ℕ) (why : HallError) → 1 ≤ kept.queue
-    → kept.queue ≤ 65000 → c.workers ≤ 32 → hall.OpenFails c devices why → devices ≡ c.workers + 1
-    → OpenFails c kept (unopened why)
-unopened_fails c kept devices hall_error.OutOfMemory some few seats f all = (some, few, seats)
-unopened_fails c kept devices hall_error.Bounded some few seats f all =
-    (some, few, inl (seats, hall_fault c devices hall_error.Bounded f all (λ e. cc)))
-unopened_fails c kept devices hall_error.NoFlushes some few seats f all =
-    (some, few, inl (seats, hall_fault c devices hall_error.NoFlushes f all (λ e. cc)))
-unopened_fails c kept devices hall_error.TooManyWorkers some few seats f all =
-    (some, few, inl (seats, hall_fault c devices hall_error.TooManyWorkers f all (λ e. cc)))
-unopened_fails c kept devices hall_error.OtherEnds some few seats f all =
-    (some, few, inl (seats, hall_fault c devices hall_error.OtherEnds f all (λ e. cc)))
 
 -- ---- one starts
 

@@ -51,7 +51,8 @@ abbrev pub errand_of : (flushers : Bool) → Parts → Pass → Option Errand
 errand_of true x pass = flush_errand (flush_in x.flusher)
 errand_of false x pass = errand_seated (seated_at x.seats pass)
 
--- Why a pass has no step of a device: it waits or is at another step, or it isn't one.
+-- Why a pass is refused with which nobody runs, or that isn't at a step of the device: the step is wrong where one waits or runs with it,
+-- or it is the flusher's; else it isn't a pass.
 abbrev pub no_errand : Parts → Pass → PassError
 no_errand x pass =
     if is_flushers x pass || (is_some (seated_at x.seats pass) || is_some (waiter_at x.line pass)) then pass_error.WrongStep

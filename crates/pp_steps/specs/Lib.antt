@@ -2,6 +2,7 @@ pub mod Bytes
 pub mod Calls
 pub mod Devices
 pub mod Ending
+pub mod Lending
 pub mod Lines
 pub mod Opening
 pub mod Parts

@@ -85,11 +85,12 @@ pub record EndsBy (old : Stage) (h : halls.Parts) (off : ReadGuard) (told : Told
   pub ends : hall.EndsRead h session off next mark told h'
   pub stays : new ≡ stage.In next
 
--- The slot whose latch the plan takes off next, if it does.
+-- The slot whose latch a plan that asks this takes off next, if it does.
 abbrev pub asked_off : Ask → Option ℕ
 asked_off (ask.Unlatch slot) = Some slot
 asked_off _ = None
 
+-- The same at a stage, where a plan is acted in.
 abbrev pub slot_off : Stage → Option ℕ
 slot_off (stage.In session) = asked_off session.ask
 slot_off _ = None
@@ -116,8 +117,8 @@ abbrev pub CannotEnd : Stage → ReadGuard → vault.Parts → Type 0
 CannotEnd (stage.In session) off v = (s : State) → StandsFor v s → may_end_read session off s ≡ false
 CannotEnd _ off v = Unit {0}
 
--- Why no reading is ended: no plan is acted in, or it takes no latch off next whose slot has a reader's guard; or the vault can't make both
--- moves at once.
+-- Why no reading is ended: no plan is acted in; or it doesn't take a latch off next; or that slot has no reader's guard; or the vault can't
+-- make both moves at once.
 abbrev pub CannotPut : Stage → List (Option Guard) → vault.Parts → Type 0
 CannotPut at guards v = MatchOption (guard_off guards (slot_off at)) (Unit {0}) (λ off. CannotEnd at off v)
 
@@ -170,7 +171,7 @@ pub record EndsReading (old : Parts) (pass : Pass) (s : Seated) (result : Result
   pub rings_are : AreRings old.line ended.told rings
   pub new_is : new ≡ record old { hall = hall; seats = with_seat old.seats pass left }
 
--- Where the bytes lie in a body, a reading is begun, or it can't be. Else their length is wrong.
+-- Where the bytes lie in a body, the reading is begun, or can't be at once. Else their length is wrong.
 abbrev pub GetsIf : (lies : Bool) → Parts → Pass → Seated → (page from : ℕ) → (before : List ℕ) → Result Step AtOnceError → Rings
     → (after : List ℕ) → Parts → Type 0
 GetsIf false old pass s page from before result rings after new =
@@ -180,7 +181,7 @@ GetsIf true old pass s page from before result rings after new =
     ⊎ (CannotGet s.worker.hand.stage s.worker.hand.guards old.hall.seating.vault page
     × IsLeft old at_once.NotAtOnce result rings new × (after ≡ before))
 
--- What a pass is answered that begins a reading.
+-- What a pass is answered that asks to begin a reading.
 abbrev pub GetIs : Option Seated → Parts → Pass → (page from : ℕ) → (before : List ℕ) → Result Step AtOnceError → Rings
     → (after : List ℕ) → Parts → Type 0
 GetIs None old pass page from before result rings after new =
@@ -188,7 +189,7 @@ GetIs None old pass page from before result rings after new =
 GetIs (Some s) old pass page from before result rings after new =
     GetsIf (lies_in old.hall.seating.vault.page_bytes from (length before)) old pass s page from before result rings after new
 
--- What a pass is answered that ends one.
+-- What a pass is answered that asks to end one.
 abbrev pub PutIs : Option Seated → Parts → Pass → Result Step AtOnceError → Rings → Parts → Type 0
 PutIs None old pass result rings new = IsLeft old (at_once.Pass (no_errand old pass)) result rings new
 PutIs (Some s) old pass result rings new =

@@ -12,6 +12,7 @@
 pub use error::{AtOnceError, EnterError, GoError, KeepError, OpenError, PassError, WhyOpen};
 pub use flusher::FlushWish;
 pub use going::Went;
+pub use lent::Lent;
 pub use pass::Pass;
 pub use plans::KeptPlan;
 pub use pp_hall::{Counts, Policy, Stats};
@@ -25,6 +26,7 @@ mod error;
 mod flusher;
 mod going;
 mod homing;
+mod lent;
 mod line;
 mod named;
 mod pass;

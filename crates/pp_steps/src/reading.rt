@@ -38,13 +38,14 @@ pub(crate) struct Ended {
 impl Steps {
     /// Fixes this page and latches it S, and copies bytes of its body from this one on, where the page is cached and the plan asks
     /// both moves now, one behind the other. It makes the moves of two calls of [`Steps::go`], copies as [`Steps::read`] does, and
-    /// tells what comes next. The worker's log doesn't have these moves; nobody reads it here.
+    /// tells what comes next. The worker's log misses these two moves: a pool that stands keeps no journal, so nobody reads that log.
     ///
     /// # Errors
     ///
-    /// [`PassError::BadPass`] and [`PassError::WrongStep`] as of [`Steps::read`], where nobody runs with the pass; else
-    /// [`PassError::WrongLength`] where the bytes don't lie in a body; else [`AtOnceError::NotAtOnce`], where the plan asks no fix into a
-    /// slot that is free, or the vault can't make both moves now. Then [`Steps::go`] goes on, with the same page. Nothing has changed.
+    /// [`AtOnceError::Pass`] with [`PassError::BadPass`] or [`PassError::WrongStep`], as of [`Steps::read`], where nobody runs with the
+    /// pass; else with [`PassError::WrongLength`] where the bytes don't lie in a body; else [`AtOnceError::NotAtOnce`], where the plan asks
+    /// no fix into a slot that is free, or the vault can't make both moves now. Then [`Steps::go`] makes the next step, a fix with the same
+    /// page. Nothing has changed.
     pub fn get(
         &mut self,
         pass: Pass,
@@ -81,7 +82,8 @@ impl Steps {
     ///
     /// # Errors
     ///
-    /// As of [`Steps::get`], but for lengths. Nothing has changed.
+    /// [`AtOnceError::Pass`] as of [`Steps::get`], where nobody runs with the pass; else [`AtOnceError::NotAtOnce`], where the plan doesn't
+    /// take a latch S off next, or doesn't unfix that page behind it. Nothing has changed.
     pub fn put(&mut self, pass: Pass) -> (Result<Step, AtOnceError>, Rings)
         ensures { PutIs (seated_at self.old.seats pass) self.old pass result.0 result.1 self.new }
     {

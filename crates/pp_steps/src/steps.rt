@@ -1,14 +1,11 @@
 //! The whole: a hall, who waits, and who runs.
 
 ghost use Rattle.std.specs.Prelude.{◌≡◌, ◌+◌, ◌&&◌, ◌≤◌, ◌<◌, ℕ, true, IfOk, IfErr, OnErr, None, Some, length, vec_len};
-ghost use Rattle.pp_settings.specs.Settings.{Configuration};
 ghost use Rattle.pp_core.specs.Submits.{PrepareFails};
-ghost use Rattle.pp_hall.specs.Calls.{IsFresh};
-ghost use Rattle.pp_hall.specs.declared.error.OpenError.TheVariants as hall_error;
 ghost use Rattle.pp_steps.specs.declared.error.OpenError.TheVariants as open_error;
 ghost use Rattle.pp_steps.specs.declared.error.KeepError.TheVariants as keep_error;
 ghost use Rattle.pp_steps.specs.Calls.{Keeps, KeepFails};
-ghost use Rattle.pp_steps.specs.Opening.{IsOpened, OpenFails, unopened};
+ghost use Rattle.pp_steps.specs.Opening.{IsOpened, OpenFails};
 ghost use Rattle.pp_steps.specs.Parts.{is_flushers};
 ghost use Rattle.pp_steps.specs.Ringing.{AreRings};
 
@@ -30,9 +27,6 @@ use std::marker::Model;
 
 /// How long the queue may be.
 const LONGEST_QUEUE: u32 = 65_000;
-
-/// How many chairs a hall has at most.
-const MOST_WORKERS: u32 = 32;
 
 /// A pool that stands, whose host is asked for each step, and whose device is the host's.
 ///
@@ -88,8 +82,8 @@ impl Steps {
     ///
     /// # Errors
     ///
-    /// [`OpenError::BadQueue`] where the queue isn't 1 to 65,000 long, else as [`Hall::open`]'s, but that more than 32
-    /// workers are told first. [`OpenError::OutOfMemory`].
+    /// [`OpenError::BadQueue`] where the queue isn't 1 to 65,000 long, else the settings' first fault
+    /// ([`pp_hall::OpenError::of`]), else [`OpenError::OutOfMemory`].
     pub fn open(alloc: Global, settings: &Settings, policy: Policy) -> Result<Steps, OpenError>
         ensures opened { IfOk result (λ steps. IsOpened settings.now policy steps) }
         ensures error { IfErr result (OpenFails settings.now policy) }
@@ -98,8 +92,8 @@ impl Steps {
             return Err(OpenError::BadQueue);
         }
         let workers = settings.workers();
-        if workers > MOST_WORKERS {
-            return Err(OpenError::Hall(pp_hall::OpenError::TooManyWorkers));
+        if let Some(fault) = pp_hall::OpenError::of(settings, workers as usize + 1) {
+            return Err(OpenError::Hall(fault));
         }
         let (Ok(devices), Ok(line)) = (
             devices_of(alloc, settings),
@@ -109,7 +103,7 @@ impl Steps {
         };
         let hall = match Hall::open(alloc, settings, policy, devices) {
             Ok(hall) => hall,
-            Err((error, _devices)) => return Err(unopened(error)),
+            Err((_error, _devices)) => return Err(OpenError::OutOfMemory),
         };
         let hall = match Box::new(alloc, hall) {
             Ok(hall) => hall,
@@ -232,16 +226,6 @@ fn devices_of(alloc: Global, settings: &Settings) -> Result<Vec<HostDevice>, All
         devices.push_reserved(HostDevice::new(alloc, settings.page_bytes() as usize)?);
     }
     Ok(devices)
-}
-
-/// Why no pool is opened, by why its hall isn't.
-fn unopened(error: pp_hall::OpenError) -> OpenError
-    ensures { result ≡ unopened error }
-{
-    match error {
-        pp_hall::OpenError::OutOfMemory => OpenError::OutOfMemory,
-        error => OpenError::Hall(error),
-    }
 }
 
 /// The hall is given up, since memory ran out.

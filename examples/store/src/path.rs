@@ -3,6 +3,18 @@
 
 use crate::layout::{Layout, FIRST_OF_NODES, ROOT};
 use crate::node;
+use pinpool::Ahead;
+
+/// What the next choice of a plan is by.
+#[derive(Clone, Copy, PartialEq)]
+enum By {
+    /// The height of the root, which isn't latched yet.
+    Height,
+    /// The region of the root's child.
+    Child,
+    /// Which of the two regions of a level the next node is of.
+    Side,
+}
 
 /// The way to the leaf of a key.
 pub struct Path<'a> {
@@ -16,13 +28,11 @@ pub struct Path<'a> {
     pub is_lost: bool,
     /// The page of the node that comes next.
     pub next: u32,
-    /// What all keys of that node are below; none where it has the tree's greatest ones.
-    pub upper: Option<Vec<u8>>,
-    height_is_chosen: bool,
+    choice: By,
 }
 
 impl<'a> Path<'a> {
-    /// The way from this root, which is believed to have this height.
+    /// The way of a plan that begins with a choice by the root's height, which is believed to be this.
     pub fn new(layout: &'a Layout, root: u32, height: usize, key: &'a [u8]) -> Path<'a> {
         Path {
             layout,
@@ -31,8 +41,15 @@ impl<'a> Path<'a> {
             height,
             is_lost: false,
             next: root,
-            upper: None,
-            height_is_chosen: false,
+            choice: By::Height,
+        }
+    }
+
+    /// The way of a plan that begins with the root.
+    pub fn from_root(layout: &'a Layout, root: u32, key: &'a [u8]) -> Path<'a> {
+        Path {
+            choice: By::Child,
+            ..Path::new(layout, root, 0, key)
         }
     }
 
@@ -49,27 +66,40 @@ impl<'a> Path<'a> {
         }
     }
 
-    /// The branch to take: first the one for the root's height, and then by the region of the node
-    /// that comes next.
+    /// The branch to take: first the one for the root's height, or for its child, and then by the
+    /// region of the node that comes next. None where that node is the root.
     pub fn branch(&mut self) -> Option<u32> {
-        if !std::mem::replace(&mut self.height_is_chosen, true) {
+        if self.choice == By::Height {
+            self.choice = By::Side;
             return Some(self.height as u32 - 1);
         }
         let region = self.layout.region_of(self.next)?;
-        Some(region.checked_sub(FIRST_OF_NODES)? % 2)
+        let place = region.checked_sub(FIRST_OF_NODES)?;
+        Some(if self.is_at_root() { place } else { place % 2 })
+    }
+
+    /// Whether the choice that comes now is the one by the root's child. The next one isn't.
+    pub fn is_at_root(&mut self) -> bool {
+        std::mem::replace(&mut self.choice, By::Side) == By::Child
+    }
+
+    /// The branch and the page that come next, as far as they are known: so the pool needn't ask.
+    pub fn ahead(&mut self) -> Ahead {
+        Ahead {
+            branch: self.branch(),
+            page: Some(self.next),
+        }
     }
 
     /// Sees which child of an inner node comes next, and answers its number.
     pub fn see(&mut self, slot: u32, body: &[u8]) -> usize {
-        if slot == ROOT && node::height(body) != self.height {
+        let height_is_known = self.choice != By::Child;
+        if slot == ROOT && height_is_known && node::height(body) != self.height {
             self.height = node::height(body);
             self.is_lost = true;
             return 0;
         }
         let index = node::find_child(body, self.key);
-        if index + 1 < node::count(body) {
-            self.upper = Some(node::key(body, index + 1).to_vec());
-        }
         self.next = node::child(body, index);
         index
     }

@@ -2,8 +2,9 @@
 //! The plans of the store: which pages a call holds and latches, as texts that the pool checks once.
 //!
 //! All ways go up in classes: root, the levels from the top down, the even region of a level before
-//! its odd one, and the names. A tree's height is a choice at a plan's beginning, since it says
-//! whether the root is the parent of leaves.
+//! its odd one, and the names. Where the root may have to be latched X, its height is a choice at the
+//! plan's beginning, since it says whether the root is the parent of leaves. Where it is latched S,
+//! the choice behind that is by the region of its child, which says both.
 
 use crate::layout::{Layout, ROOT};
 use pinpool::{Device, Error, Pool, Prepared};
@@ -86,10 +87,10 @@ impl Plans {
 pub fn text_of(layout: &Layout, job: Job) -> String {
     let writer = Writer { layout };
     let body = match job {
-        Job::Look => writer.descent("S", &|above| writer.leaf("S", above)),
-        Job::Write => writer.descent("S", &|above| writer.leaf("X", above)),
-        Job::Pair => writer.descent("X", &|above| writer.two_leaves(above)),
-        Job::Scan => writer.descent("S", &|above| writer.leaves(above)),
+        Job::Look => writer.leaf_of_a_key("S"),
+        Job::Write => writer.leaf_of_a_key("X"),
+        Job::Pair => writer.pair(),
+        Job::Scan => writer.descent(&[writer.leaves(ROOT)], &|above| writer.leaves(above)),
         Job::Path => writer.path(),
         Job::Grow => writer.growth(),
         Job::Found => writer.founding(),
@@ -142,41 +143,65 @@ impl Writer<'_> {
         choice(&heights.map(body).collect::<Vec<_>>())
     }
 
-    /// From the root to the parent of leaves, each child latched before its parent is let go; that
-    /// parent in this mode, and what follows then.
-    fn descent(&self, mode: &str, then: &dyn Fn(u32) -> String) -> String {
-        self.by_height(1..=self.layout.levels, |height| {
-            let root = self.take(ROOT, if height == 1 { mode } else { "S" });
-            format!("{root},{}", self.below(height, ROOT, mode, then))
+    /// From the root to the parent of leaves, all S, and each child latched before its parent is let
+    /// go; and what follows then. It has other bodies where the root is that parent.
+    fn descent(&self, at_root: &[String], then: &dyn Fn(u32) -> String) -> String {
+        let levels = (1..self.layout.levels).rev();
+        let mut ways: Vec<_> = levels
+            .flat_map(|level| self.ways(level, ROOT, "S", then))
+            .collect();
+        ways.extend_from_slice(at_root);
+        format!("{},{}", self.take(ROOT, "S"), choice(&ways))
+    }
+
+    /// The ways by the two regions of an inner level, from a node that is latched, to the parent of
+    /// leaves, which is latched in this mode, and what follows then.
+    fn ways(
+        &self,
+        level: usize,
+        above: u32,
+        mode: &str,
+        then: &dyn Fn(u32) -> String,
+    ) -> [String; 2] {
+        self.both(level).map(|region| {
+            let take = self.take(region, if level == 1 { mode } else { "S" });
+            let rest = match level {
+                1 => then(region),
+                _ => choice(&self.ways(level - 1, region, mode, then)),
+            };
+            format!("{take},{},{rest}", self.give(above))
         })
     }
 
-    /// The same from a node of this height on, which is latched.
-    fn below(&self, height: usize, above: u32, mode: &str, then: &dyn Fn(u32) -> String) -> String {
-        if height == 1 {
-            return then(above);
-        }
-        let level = height - 1;
-        choice(&self.both(level).map(|region| {
-            let take = self.take(region, if level == 1 { mode } else { "S" });
-            format!(
-                "{take},{},{}",
-                self.give(above),
-                self.below(level, region, mode, then)
-            )
-        }))
+    /// Down to a leaf, which is latched in this mode.
+    fn leaf_of_a_key(&self, mode: &str) -> String {
+        let at_root = self.leaf(mode, ROOT);
+        self.descent(&at_root, &|above| choice(&self.leaf(mode, above)))
     }
 
-    /// A leaf, latched before its parent is let go.
-    fn leaf(&self, mode: &str, above: u32) -> String {
-        choice(&self.both(0).map(|region| {
+    /// The ways to a leaf, latched before its parent is let go.
+    fn leaf(&self, mode: &str, above: u32) -> [String; 2] {
+        self.both(0).map(|region| {
             format!(
                 "{},{},{}",
                 self.take(region, mode),
                 self.give(above),
                 self.give(region)
             )
-        }))
+        })
+    }
+
+    /// Down to the parent of leaves, which is latched X, and two leaves.
+    fn pair(&self) -> String {
+        let then = |above| self.two_leaves(above);
+        self.by_height(1..=self.layout.levels, |height| match height {
+            1 => format!("{},{}", self.take(ROOT, "X"), then(ROOT)),
+            _ => format!(
+                "{},{}",
+                self.take(ROOT, "S"),
+                choice(&self.ways(height - 1, ROOT, "X", &then))
+            ),
+        })
     }
 
     /// Leaf after leaf, while their parent stays latched.

@@ -77,12 +77,6 @@ pub(super) struct Found<'a> {
 const LEAF: u32 = 1;
 const NAMES: u32 = 2;
 
-impl<'a> HasPath<'a> for Found<'a> {
-    fn path(&self) -> &Path<'a> {
-        &self.path
-    }
-}
-
 impl Work for Found<'_> {
     fn page(&mut self, fix: Fix) -> Option<u32> {
         match fix.slot {

@@ -1,11 +1,11 @@
 // SPDX-License-Identifier: Apache-2.0
 //! A change of a leaf alone.
 
-use super::{Changed, HasPath, Held, Op, Outcome, Trees};
+use super::{Changed, Held, Op, Outcome, Trees};
 use crate::change::Tag;
 use crate::node;
 use crate::path::Path;
-use pinpool::{Fix, Pages, Work};
+use pinpool::{Ahead, Fix, Pages, Work};
 
 /// A change of a leaf alone.
 pub(super) struct Write<'a> {
@@ -17,12 +17,6 @@ pub(super) struct Write<'a> {
     pub(super) outcome: Outcome,
 }
 
-impl<'a> HasPath<'a> for Write<'a> {
-    fn path(&self) -> &Path<'a> {
-        &self.path
-    }
-}
-
 impl Work for Write<'_> {
     fn page(&mut self, fix: Fix) -> Option<u32> {
         self.path.page(fix.region)
@@ -32,11 +26,12 @@ impl Work for Write<'_> {
         self.path.branch()
     }
 
+    fn ahead(&mut self) -> Ahead {
+        self.path.ahead()
+    }
+
     fn see(&mut self, slot: u32, pages: &Pages) {
         self.path.see(slot, &pages[slot]);
-        if self.path.is_lost {
-            pages.give_up();
-        }
     }
 
     fn change(&mut self, slot: u32, pages: &mut Pages) {

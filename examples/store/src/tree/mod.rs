@@ -124,39 +124,41 @@ impl Trees {
         Path::new(&self.layout, root, height, key)
     }
 
-    /// Runs a plan. Answers whether its way was right: else the root's height is known now, and it
-    /// is to be run anew.
-    fn run<'a, W: Work + HasPath<'a>>(
-        &self,
-        job: Job,
-        root: u32,
-        work: &mut W,
-    ) -> Result<bool, Error> {
-        let ended = self.pool.execute(self.plans.of(job), work);
-        if work.path().is_lost {
-            self.height(root)
-                .store(work.path().height, Ordering::Relaxed);
-            return Ok(false);
-        }
-        match ended {
-            Ok(()) | Err(pinpool::Error::GivenUp) => Ok(true),
+    /// Runs a plan, up to its end or to where its work gave it up.
+    fn run<W: Work>(&self, job: Job, work: &mut W) -> Result<(), Error> {
+        match self.pool.execute(self.plans.of(job), work) {
+            Ok(()) | Err(pinpool::Error::GivenUp) => Ok(()),
             Err(pinpool::Error::Gone { .. }) if self.device.has_failed() => Err(Error::Failed),
             Err(error) => Err(error.into()),
         }
     }
 
+    /// Runs a plan that begins with the root's height. Answers whether that was right: else it is
+    /// known now, and the plan is to be run anew.
+    fn run_by_height<'a, W: Work + HasPath<'a>>(
+        &self,
+        job: Job,
+        root: u32,
+        work: &mut W,
+    ) -> Result<bool, Error> {
+        let ended = self.run(job, work);
+        if work.path().is_lost {
+            self.height(root)
+                .store(work.path().height, Ordering::Relaxed);
+            return Ok(false);
+        }
+        ended.map(|()| true)
+    }
+
     /// The value of a key.
     pub fn get(&self, root: u32, key: &[u8]) -> Result<Option<Vec<u8>>, Error> {
-        loop {
-            let mut look = Look {
-                path: self.path(root, key),
-                first_leaf: self.layout.even_of(0),
-                value: None,
-            };
-            if self.run(Job::Look, root, &mut look)? {
-                return Ok(look.value);
-            }
-        }
+        let mut look = Look {
+            path: Path::from_root(&self.layout, root, key),
+            first_leaf: self.layout.even_of(0),
+            value: None,
+        };
+        self.run(Job::Look, &mut look)?;
+        Ok(look.value)
     }
 
     /// Keys from one on, and below another, with their values: no more than so many. Each parent's
@@ -171,23 +173,19 @@ impl Trees {
         let (mut from, mut entries) = (from.to_vec(), Vec::new());
         loop {
             let mut scan = Scan {
-                path: self.path(root, &from),
+                path: Path::from_root(&self.layout, root, &from),
                 first_leaf: self.layout.even_of(0),
                 to,
                 most,
                 leaves: None,
+                upper: None,
                 entries: std::mem::take(&mut entries),
             };
-            let is_right = self.run(Job::Scan, root, &mut scan)?;
+            self.run(Job::Scan, &mut scan)?;
             entries = std::mem::take(&mut scan.entries);
-            if !is_right {
-                continue;
-            }
             let goes_on = entries.len() < most;
             match scan
-                .path
                 .upper
-                .take()
                 .filter(|it| goes_on && to.is_none_or(|to| &it[..] < to))
             {
                 Some(upper) => from = upper,
@@ -211,7 +209,7 @@ impl Trees {
         let mut job = Job::Write;
         loop {
             let (is_right, outcome) = match job {
-                Job::Write => self.write(root, key, op, tag, false)?,
+                Job::Write => (true, self.write(root, key, op, tag, false)?),
                 Job::Grow => self.grow(root, tag)?,
                 _ => self.restructure(job, root, key, op, tag)?,
             };
@@ -227,7 +225,7 @@ impl Trees {
                 (Outcome::Full, _) if op == Op::Delete => {
                     // (a leaf without an entry may stay)
                     match self.write(root, key, op, tag, true)? {
-                        (true, Outcome::Done(changed)) => return Ok(changed),
+                        Outcome::Done(changed) => return Ok(changed),
                         _ => Job::Write,
                     }
                 }
@@ -248,17 +246,17 @@ impl Trees {
         op: Op,
         tag: Option<Tag>,
         may_be_empty: bool,
-    ) -> Result<(bool, Outcome), Error> {
+    ) -> Result<Outcome, Error> {
         let mut write = Write {
             trees: self,
-            path: self.path(root, key),
+            path: Path::from_root(&self.layout, root, key),
             op,
             tag,
             may_be_empty,
             outcome: Outcome::Unknown,
         };
-        let is_right = self.run(Job::Write, root, &mut write)?;
-        Ok((is_right, write.outcome))
+        self.run(Job::Write, &mut write)?;
+        Ok(write.outcome)
     }
 
     fn restructure(
@@ -277,7 +275,7 @@ impl Trees {
             freed: None,
             common: Common::new(self, tag),
         };
-        let ran = self.run(job, root, &mut work);
+        let ran = self.run_by_height(job, root, &mut work);
         work.common.give_back();
         let is_right = ran?;
         if let (true, Some(page)) = (is_right, work.freed) {
@@ -300,7 +298,7 @@ impl Trees {
             last_slot,
             common,
         };
-        let ran = self.run(Job::Grow, root, &mut work);
+        let ran = self.run_by_height(Job::Grow, root, &mut work);
         work.common.give_back();
         let is_right = ran?;
         if let (true, Outcome::Full) = (is_right, &work.common.outcome) {
@@ -320,7 +318,7 @@ impl Trees {
             path: self.path(root, name.as_bytes()),
             common: Common::new(self, None),
         };
-        let ran = self.run(Job::Found, root, &mut work);
+        let ran = self.run(Job::Found, &mut work);
         work.common.give_back();
         ran?;
         match work.common.outcome {
@@ -357,7 +355,7 @@ impl Trees {
     }
 }
 
-/// A work that goes down a tree.
+/// A work that goes down a tree whose root may have another height than was believed.
 trait HasPath<'a> {
     fn path(&self) -> &Path<'a>;
 }

@@ -1,9 +1,9 @@
 -- What is left to show of pinpool_put: what the handle holds after it.
 use Rattle.std.proofs.Common.{sym, ap, ◌∙◌}
 use Rattle.std.specs.Prelude.{Some}
-use Rattle.pp_pool_c.specs.Answers.{is_refusal}
+use Rattle.pp_pool_c.specs.Answers.{code}
 use Rattle.pp_pool_c.specs.Calls.{PutsTo}
-use Rattle.pp_pool_c.proofs.CallLemmas.{goes, same_code, stays_in, put_stays}
+use Rattle.pp_pool_c.proofs.CallLemmas.{goes, stays_in, put_stays}
 use Rattle.pp_pool_c.proofs.reading.pinpool_put.Goals as goal
 
 pub returns-in-Some-clause-puts : goal.returns-in-Some-clause-puts
@@ -15,9 +15,9 @@ returns-in-Some-clause-puts c =
     c.put_back-answer.ensures.settings
 
 pub returns-in-Some-clause-unchanged : goal.returns-in-Some-clause-unchanged
-returns-in-Some-clause-unchanged c = λ why refusal is.
+returns-in-Some-clause-unchanged c = λ not.
     stays_in c.args.handle.now.value c.put.new.handle.value c.deref_mut.result.now c.put_back-answer.new.kept
     (c.in-Some.ensures.taken ∙ ap Some (sym c.deref_mut.ensures.value)) c.put.ensures
     (put_stays c.of.result c.put_back-answer.result c.put_back-answer.new.ask
     c.put_back-answer.new.told c.deref_mut.result.now.steps c.put_back-answer.new.kept.steps c.put_back-answer.ensures.puts
-    (ap is_refusal (same_code c.put_back-answer.result why (sym c.code-in-Some.ensures ∙ is)) ∙ refusal)) c.put_back-answer.ensures.settings
+    (λ e. not (c.code-in-Some.ensures ∙ ap code e))) c.put_back-answer.ensures.settings

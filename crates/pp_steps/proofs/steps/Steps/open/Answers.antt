@@ -1,15 +1,8 @@
-use Rattle.std.proofs.Common.{◌∙◌, None, replicate, sym, ap, subst, vec_len, arith}
+use Rattle.std.proofs.Common.{◌∙◌, None, replicate, sym, ap, subst}
 use Rattle.pp_hall.specs.Halls as halls
 use Rattle.pp_hall.specs.Calls as hall
-use Rattle.pp_steps.specs.Opening.{OpenFails}
-use Rattle.pp_steps.proofs.Home.{opened_steps, unopened_fails}
+use Rattle.pp_steps.proofs.Home.{opened_steps}
 use Rattle.pp_steps.proofs.steps.Steps.open.Goals as goal
-
-pub returns-in-Err-clause-error : goal.returns-in-Err-clause-error
-returns-in-Err-clause-error c =
-    subst (λ error. OpenFails c.args.settings.now c.args.policy error) (sym c.unopened.ensures)
-    (unopened_fails c.args.settings.now c.args.policy (vec_len c.in-Ok-Ok.devices) c.in-Err.error (omega arith)
-    (omega arith) (omega (arith, c.workers-workers.ensures.is)) c.in-Err.ensures.error c.in-Ok-Ok.ensures)
 
 pub invariant_of-result : goal.invariant_of-result
 invariant_of-result c =
