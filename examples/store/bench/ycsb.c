@@ -5,7 +5,8 @@
 **
 ** FOLDER is made, and filled with RECORDS records of 100 bytes. Then each of LOADS, as ABCDF, runs for so many seconds with each number of
 ** threads. A line for each: engine, load, threads, operations a second, the microseconds that 99 of 100 operations take at most, and the
-** bytes written to the medium for each operation. E comes last in LOADS where D and E add records. */
+** bytes that the folder's disk has written meanwhile, for each operation: those of others too, so nothing else may be at work. E comes last
+** in LOADS where D and E add records. */
 #include "engines.h"
 #include <math.h>
 #include <pthread.h>
@@ -13,6 +14,7 @@
 #include <stdlib.h>
 #include <string.h>
 #include <sys/stat.h>
+#include <sys/sysmacros.h>
 #include <time.h>
 
 enum { KEY_BYTES = 24, VALUE_BYTES = 100, AT_ONCE = 1000, MOST_TIMES = 1 << 22 };
@@ -46,13 +48,20 @@ static double now(void) {
     clock_gettime(CLOCK_MONOTONIC, &it);
     return (double)it.tv_sec + (double)it.tv_nsec / 1e9;
 }
+/* What the disk of the folder has written. (What the system says of a process counts the whole of a large page of its cache for the
+** first byte that is changed in it.) */
+static char disk[64];
+static void find_disk(const char *folder) {
+    struct stat it;
+    must(stat(folder, &it), "stat");
+    snprintf(disk, sizeof disk, "/sys/dev/block/%u:%u/stat", major(it.st_dev), minor(it.st_dev));
+}
 static unsigned long long bytes_written(void) {
-    char line[100];
-    unsigned long long written = 0;
-    FILE *file = fopen("/proc/self/io", "r");
-    while (file && fgets(line, sizeof line, file)) sscanf(line, "write_bytes: %llu", &written);
+    unsigned long long sectors = 0;
+    FILE *file = fopen(disk, "r");
+    if (file && fscanf(file, "%*u %*u %*u %*u %*u %*u %llu", &sectors) != 1) sectors = 0;
     if (file) fclose(file);
-    return written;
+    return sectors * 512;
 }
 
 /* Ranks by Zipf's law (Gray et al., Quickly generating billion-record synthetic databases). */
@@ -149,11 +158,13 @@ int main(int count, char **words) {
         return 2;
     }
     must(mkdir(words[2], 0700), "mkdir");
+    find_disk(words[2]);
     records = strtoull(words[4], NULL, 10);
     prepare_zipf(records);
     void *opened = engine->open(words[2], strtoull(words[3], NULL, 10)), *session = engine->begin(opened);
     char *keys = malloc(AT_ONCE * KEY_BYTES), value[VALUE_BYTES];
     memset(value, 7, sizeof value);
+    unsigned long long before = bytes_written();
     double begun = now();
     for (uint64_t first = 0; first < records; first += AT_ONCE) {
         uint64_t some = records - first < AT_ONCE ? records - first : AT_ONCE;
@@ -162,7 +173,7 @@ int main(int count, char **words) {
     }
     engine->end(session);
     engine->settle(opened);
-    printf("%s\tload\t1\t%.0f\t\t%llu\n", engine->name, (double)records / (now() - begun), bytes_written() / records);
+    printf("%s\tload\t1\t%.0f\t\t%llu\n", engine->name, (double)records / (now() - begun), (bytes_written() - before) / records);
     for (const char *load = words[6]; *load; load++)
         for (int i = 7; i < count; i++) run(engine, opened, *load, atoi(words[i]), strtod(words[5], NULL));
     engine->close(opened);
