@@ -316,7 +316,7 @@ PINPOOL_API PINPOOL_MUST_USE pinpool_answer pinpool_write(
 ** off, the thread reads there without the lock; and where the page is latched X it writes there, which is as if pinpool_write had put the
 ** bytes in. Behind the call that takes the latch off nobody may use the place any more: the pool can't see to that, and says nothing of
 ** what was read or written too late. `lent` is written only where it is DONE. It changes nothing, and takes a fixed number of steps.
-** DONE; NO_POOL; BAD_TICKET; WRONG_STEP where the slot has no page that is latched. */
+** DONE; NO_POOL; BAD_TICKET; WRONG_STEP where the ticket waits to start, or is the flusher's, or the slot has no page that is latched. */
 PINPOOL_API PINPOOL_MUST_USE pinpool_answer pinpool_lend(pinpool *pool, uint64_t ticket, uint32_t slot, pinpool_lent *lent);
 
 /* Leaves the queue, or gives back a chair whose plan wasn't taken (the next step is TAKE), or the flusher's ticket with no flush in
