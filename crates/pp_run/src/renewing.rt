@@ -98,16 +98,9 @@ fn is_idle(hands: &mut Hands, worker: u32) -> bool
     let Some(hand) = hands.part(worker) else {
         return false;
     };
-    match hand.chair() {
-        Ok(chair) => {
-            put_back(hands, Hand::of(chair));
-            true
-        }
-        Err(hand) => {
-            put_back(hands, hand);
-            false
-        }
-    }
+    let is_idle = hand.is_idle();
+    put_back(hands, hand);
+    is_idle
 }
 
 /// Puts a hand into its worker's place, which is empty.

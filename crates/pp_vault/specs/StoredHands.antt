@@ -16,4 +16,4 @@ stage_of (Leaving worker) = stage.Leaving (record { worker = worker })
 
 -- The hand that was stored.
 abbrev pub hand_of : stored_hand.Inside → Hand
-hand_of k = record { stage = stage_of k.stage; guards = k.guards }
+hand_of k = record { stage = stage_of k.stage; guards = k.guards.value }

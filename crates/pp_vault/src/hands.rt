@@ -60,7 +60,8 @@ impl Hands {
     {
         let mut places = Vec::with_capacity(alloc, workers as usize)?;
         for worker in 0..workers {
-            places.push_reserved(Some(StoredHand::of(Hand::of(Chair { worker }))));
+            let guards = Guards::new(alloc)?;
+            places.push_reserved(Some(StoredHand::of(Hand::of(Chair { worker }, guards))));
         }
         Ok(Hands {
             workers: Workers { places },

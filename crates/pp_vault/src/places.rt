@@ -1,23 +1,24 @@
 //! The guards of a worker, each in the place of its slot.
 
-ghost use Rattle.std.specs.Prelude.{◌≡◌, true, false, None, Some, OnOk, IfErr};
+ghost use Rattle.std.specs.Prelude.{◌≡◌, true, false, None, Some, OnOk, IfErr, IfOk};
 ghost use Rattle.std.specs.Prelude.{OnErr, IfSome, IfNone, slice_set, option_and_then, length};
 ghost use Rattle.pp_vault.specs.Holding.{slot_by, held_by, has_bundle, placed, is_free, all_free, no_guards};
 
 use crate::guards::Guard;
 use crate::stored::StoredGuard;
 use pp_core::Held;
+use std::alloc::{AllocError, Global};
 use std::marker::Model;
 
 /// How many slots a plan has at most.
 pub(crate) const SLOTS: usize = 32;
 
 /// The guards of one worker, each in the place of its slot. Contracts see them as a list of 32: at place s the guard of
-/// slot s, if it is there.
+/// slot s, if it is there. The places lie apart, since a worker's tokens are handed on by value.
 ///
 /// The compiler refuses code that lets it fall.
 pub struct Guards {
-    pub(crate) places: [Option<StoredGuard>; SLOTS],
+    pub(crate) places: Box<[Option<StoredGuard>; SLOTS]>,
 }
 
 impl Model for Guards {
@@ -29,20 +30,22 @@ impl Model for Guards {
 
     ghost coded = { coded_guards };
 
-    ghost view = { λ g. g.places };
+    ghost view = { λ g. g.places.value };
 
     ghost use Rattle.pp_vault.specs.Holding.{GuardPlaces};
 
-    ghost invariant = { λ g. GuardPlaces g.places };
+    ghost invariant = { λ g. GuardPlaces g.places.value };
 }
 
 impl Guards {
-    /// No guards.
-    pub fn new() -> Guards
-        ensures { result ≡ no_guards }
+    /// No guards, and a place for one of each slot.
+    pub(crate) fn new(alloc: Global) -> Result<Guards, AllocError>
+        ensures { IfOk result (λ guards. guards ≡ no_guards) }
     {
-        Guards {
-            places: Default::default(),
+        let places: [Option<StoredGuard>; SLOTS] = Default::default();
+        match Box::new(alloc, places) {
+            Ok(places) => Ok(Guards { places }),
+            Err(_refused) => Err(AllocError),
         }
     }
 
@@ -59,7 +62,7 @@ impl Guards {
         ensures unchanged { OnErr result (self.new ≡ self.old) }
     {
         let place = guard.slot() as usize;
-        if place >= self.places.len() || self.places[place].is_some() {
+        if place >= SLOTS || self.places[place].is_some() {
             return Err(guard);
         }
         self.places[place] = Some(StoredGuard::of(guard));
@@ -73,8 +76,8 @@ impl Guards {
         ensures slot { IfSome result (λ guard. slot_by guard ≡ slot) }
         ensures unchanged { IfNone result (self.new ≡ self.old) }
     {
-        let places = &mut self.places;
-        if slot as usize >= places.len() {
+        let places = &mut *self.places;
+        if slot as usize >= SLOTS {
             return None;
         }
         match places[slot as usize].take() {
@@ -88,7 +91,8 @@ impl Guards {
         ensures held { result ≡ option_and_then held_by (placed self.now slot) }
         ensures long { length self.now ≡ 32 }
     {
-        match self.places.get(slot as usize) {
+        let places = &*self.places;
+        match places.get(slot as usize) {
             Some(Some(stored)) => stored.held(),
             _ => None,
         }
@@ -98,7 +102,8 @@ impl Guards {
     pub fn has_bundle(&self, slot: u32) -> bool
         ensures { result ≡ has_bundle (placed self.now slot) }
     {
-        match self.places.get(slot as usize) {
+        let places = &*self.places;
+        match places.get(slot as usize) {
             Some(Some(stored)) => stored.is_bundle(),
             _ => false,
         }
@@ -108,7 +113,8 @@ impl Guards {
     pub fn is_free(&self, slot: u32) -> bool
         ensures { result ≡ is_free self.now slot }
     {
-        match self.places.get(slot as usize) {
+        let places = &*self.places;
+        match places.get(slot as usize) {
             Some(place) => place.is_none(),
             None => false,
         }
@@ -119,6 +125,7 @@ impl Guards {
         ensures free { result ≡ all_free self.now }
         ensures long { length self.now ≡ 32 }
     {
-        self.places.iter().all(|place| place.is_none())
+        let places = &*self.places;
+        places.iter().all(|place| place.is_none())
     }
 }

@@ -1,6 +1,8 @@
 //! All tokens of one worker.
 
-ghost use Rattle.std.specs.Prelude.{◌≡◌, false, IfOk, IfErr, OnErr};
+ghost use Rattle.std.specs.Prelude.{◌≡◌, true, false, IfOk, IfErr, OnErr};
+ghost use Rattle.pp_vault.specs.declared.tokens.Chair.{Chair};
+ghost use Rattle.pp_vault.specs.declared.stage.Stage.TheVariants.{Idle};
 ghost use Rattle.pp_vault.specs.Stages.{stage_worker, idle_hand, is_idle_hand};
 
 use crate::places::Guards;
@@ -44,17 +46,28 @@ impl Stage {
 }
 
 impl Hand {
-    /// The hand of an idle worker.
-    pub fn of(chair: Chair) -> Hand
-        ensures { result ≡ idle_hand chair }
+    /// The hand of a worker with this chair and these guards.
+    pub(crate) fn of(chair: Chair, guards: Guards) -> Hand
+        ensures { result ≡ record { stage = Idle chair; guards = guards } }
     {
         Hand {
             stage: Stage::Idle(chair),
-            guards: Guards::new(),
+            guards,
         }
     }
 
-    /// The chair of an idle worker that holds nothing.
+    /// Whether the worker is idle and holds nothing.
+    pub fn is_idle(&self) -> bool
+        ensures idle { result ≡ true → (chair : Chair) × (self.now ≡ idle_hand chair) }
+        ensures busy { result ≡ false → is_idle_hand self.now ≡ false }
+    {
+        match &self.stage {
+            Stage::Idle(_) => self.guards.is_empty(),
+            _ => false,
+        }
+    }
+
+    /// The chair of an idle worker that holds nothing. The places of its guards go.
     ///
     /// # Errors
     ///

@@ -5,7 +5,7 @@ ghost use Rattle.std.specs.Prelude.{◌≡◌, None, Some};
 use crate::guards::Guard;
 use crate::places::Guards;
 use crate::stage::{Hand, Stage};
-use crate::stored::{StoredGuard, StoredHand};
+use crate::stored::{StoredGuard, StoredStage};
 
 /// What a worker has out of a vault's hands where it stops in the midst of a run.
 ///
@@ -53,10 +53,7 @@ impl Stopped {
         let Stopped { stage, guard } = self;
         match stage {
             Some(stage) => {
-                let _hand = StoredHand::of(Hand {
-                    stage,
-                    guards: Guards::new(),
-                });
+                let _stage = StoredStage::of(stage);
             }
             None => {}
         }

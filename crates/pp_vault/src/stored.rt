@@ -2,6 +2,7 @@
 
 ghost use Rattle.std.specs.Prelude.{◌≡◌};
 ghost use Rattle.pp_vault.specs.Holding.{held_by, is_bundle};
+ghost use Rattle.pp_vault.specs.StoredHands.{stage_of};
 
 use crate::guards::{BundleGuard, Guard, PinGuard, ReadGuard, WriteGuard};
 use crate::image::Image;
@@ -164,7 +165,7 @@ pub(crate) enum StoredStage {
 #[derive(Drop)]
 pub(crate) struct StoredHand {
     stage: StoredStage,
-    guards: [Option<StoredGuard>; SLOTS],
+    guards: Box<[Option<StoredGuard>; SLOTS]>,
 }
 
 impl Model for StoredHand {
@@ -181,17 +182,15 @@ impl Model for StoredHand {
 
     ghost use Rattle.pp_vault.specs.Holding.{GuardPlaces};
 
-    ghost invariant = { λ k. GuardPlaces k.guards };
+    ghost invariant = { λ k. GuardPlaces k.guards.value };
 }
 
-impl StoredHand {
-    /// The hand, stored as plain data.
-    pub(crate) fn of(hand: Hand) -> StoredHand
-        ensures { result ≡ hand }
+impl StoredStage {
+    /// The stage with its token, stored as plain data.
+    pub(crate) fn of(stage: Stage) -> StoredStage
+        ensures { stage_of result ≡ stage }
     {
-        let Hand { stage, guards } = hand;
-        let Guards { places } = guards;
-        let stage = match stage {
+        match stage {
             Stage::Idle(Chair { worker }) => StoredStage::Idle(worker),
             Stage::In(Session { worker, ask }) => StoredStage::In(worker, ask),
             Stage::Out(Errand { duty, image }) => StoredStage::Out(duty, image),
@@ -203,7 +202,18 @@ impl StoredHand {
                 },
             ) => StoredStage::Back(duty, image, answer),
             Stage::Leaving(Leaver { worker }) => StoredStage::Leaving(worker),
-        };
+        }
+    }
+}
+
+impl StoredHand {
+    /// The hand, stored as plain data.
+    pub(crate) fn of(hand: Hand) -> StoredHand
+        ensures { result ≡ hand }
+    {
+        let Hand { stage, guards } = hand;
+        let Guards { places } = guards;
+        let stage = StoredStage::of(stage);
         StoredHand {
             stage,
             guards: places,

@@ -6,7 +6,7 @@ pub loop-worker-preserved : goal.loop-worker-preserved
 loop-worker-preserved c =
     record {
       idle =
-          rw (c.push_reserved.ensures.items, c.of-in-loop-worker.ensures, c.of.ensures)
+          rw (c.push_reserved.ensures.items, c.of-in-loop-worker.ensures, c.of.ensures, c.in_ok-guards.ensures)
           (one_more c.loop-worker.worker c.loop-worker.places.items c.loop-worker.invariant.idle);
       room = omega (arith, c.push_reserved.ensures.capacity, c.loop-worker.invariant.room);
     }

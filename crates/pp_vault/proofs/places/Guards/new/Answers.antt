@@ -1,13 +1,15 @@
-use Rattle.std.proofs.Common.{◌≡◌, None, sym, subst}
+use Rattle.std.proofs.Common.{◌≡◌, ◌∙◌, None, sym, subst}
 use Rattle.pp_vault.specs.Holding.{GuardPlaces, no_guards}
 use Rattle.pp_vault.proofs.Placed.{none_placed, no_guard_places}
 use Rattle.pp_vault.proofs.places.Guards.new.Goals as goal
 
-pub returns : goal.returns
-returns c = none_placed c.default.result 32 c.default.ensures.long (λ i low. c.default.ensures.at i None low)
+none : (c : goal.In-Ok) → c.in-Ok.places.value ≡ no_guards
+none c =
+    c.in-Ok.ensures.ok
+    ∙ none_placed c.default-places.result 32 c.default-places.ensures.long (λ i low. c.default-places.ensures.at i None low)
+
+pub returns-in-Ok : goal.returns-in-Ok
+returns-in-Ok c = none c
 
 pub invariant_of-result : goal.invariant_of-result
-invariant_of-result c =
-    let none : c.default.result ≡ no_guards =
-    none_placed c.default.result 32 c.default.ensures.long (λ i low. c.default.ensures.at i None low) in
-    subst GuardPlaces (sym none) no_guard_places
+invariant_of-result c = subst GuardPlaces (sym (none c)) no_guard_places
