@@ -5,7 +5,7 @@ use Rattle.std.specs.Prelude.{◌==◌, ◌&&◌, is_some, if◌then◌else◌, 
 use Rattle.std.proofs.lemmas.Bool.{le-leb}
 use Rattle.std.proofs.lemmas.Bool.Decides.{nat_tests}
 use Rattle.pp_settings.specs.Layout.{Geometry}
-use Rattle.pp_plan.specs.Limits.{most_slots}
+use Rattle.pp_settings.specs.Limits.{most_slots}
 use Rattle.pp_plan.specs.Tree.{Sequence, scatters}
 use Rattle.pp_cert.specs.declared.note.Entry.TheVariants.{Slot, Bundle}
 use Rattle.pp_cert.specs.Notes.{Entries, note_pins, bound_at, plain_part, same_note, is_in_form, is_begun, all_bundles}

@@ -5,7 +5,7 @@ use Rattle.std.proofs.Common.{refl, ap, subst, ◌∙◌, arith}
 use Rattle.std.specs.Prelude.{◌==◌, if◌then◌else◌}
 use Rattle.std.proofs.lemmas.Bool.{eqb-true}
 use Rattle.pp_settings.specs.Layout.{Geometry}
-use Rattle.pp_plan.specs.Limits.{most_slots}
+use Rattle.pp_settings.specs.Limits.{most_slots}
 use Rattle.pp_plan.specs.Tree.{Step, fix, unfix, latch, unlatch, gather, scatter, Statement, step, loop, choice}
 use Rattle.pp_plan.specs.Tree.{Sequence, skip, andthen, Alternatives, none, either, step_scatters, statement_scatters}
 use Rattle.pp_plan.specs.Tree.{scatters, branches_scatter}

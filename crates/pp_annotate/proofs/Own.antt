@@ -9,7 +9,7 @@ use Rattle.std.proofs.lemmas.List.{append_assoc}
 use Rattle.std.proofs.lemmas.Bool.{and_parts, eqb-true, ltb-true, lt-ltb}
 use Rattle.std.proofs.lemmas.Bool.Decides.{nat_tests}
 use Rattle.pp_settings.specs.Layout.{Geometry}
-use Rattle.pp_plan.specs.Limits.{most_slots}
+use Rattle.pp_settings.specs.Limits.{most_slots}
 use Rattle.pp_plan.specs.Tree.{Step, fix, unfix, latch, unlatch, gather, scatter, Statement, step, loop, choice}
 use Rattle.pp_plan.specs.Tree.{Sequence, skip, andthen, Alternatives, none, either, scatters, statement_scatters}
 use Rattle.pp_plan.specs.Tree.{step_scatters, branches_scatter}

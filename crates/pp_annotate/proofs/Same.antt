@@ -4,7 +4,7 @@ use Rattle.std.proofs.Common.{length, refl, sym, ap, subst, ◌∙◌, arith, in
 use Rattle.std.specs.Prelude.{slice_get, unwrap_or, is_some, if◌then◌else◌, not, ◌==◌, ◌&&◌, nat_lt, All}
 use Rattle.std.proofs.lemmas.Bool.{and_parts}
 use Rattle.pp_settings.specs.Layout.{Geometry}
-use Rattle.pp_plan.specs.Limits.{most_slots}
+use Rattle.pp_settings.specs.Limits.{most_slots}
 use Rattle.pp_plan.specs.Tree.{Step, fix, unfix, latch, unlatch, gather, scatter, Statement, step, loop, choice}
 use Rattle.pp_plan.specs.Tree.{Sequence, skip, andthen, Alternatives, none, either, scatters}
 use Rattle.pp_plan.specs.Rules.{uses_bundle}

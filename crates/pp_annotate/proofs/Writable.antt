@@ -9,7 +9,7 @@ use Rattle.std.proofs.lemmas.List.Elements.{All-nil, All-cons, All-append, All-w
 use Rattle.std.proofs.lemmas.List.Kept.{AllPairs-cons}
 use Rattle.pp_settings.specs.Layout.{Geometry}
 use Rattle.pp_settings.specs.Settings.{Configuration, geometry_of}
-use Rattle.pp_plan.specs.Limits.{most_slots}
+use Rattle.pp_settings.specs.Limits.{most_slots}
 use Rattle.pp_plan.specs.Tree.{Step, fix, unfix, latch, unlatch, gather, scatter, Statement, step, loop, choice}
 use Rattle.pp_plan.specs.Tree.{Sequence, skip, andthen, Alternatives, none, either}
 use Rattle.pp_plan.specs.Rules.{IsStep, IsStatement, IsSequence, AreAlternatives, uses_bundle}

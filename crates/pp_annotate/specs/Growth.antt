@@ -1,6 +1,6 @@
 -- By how much a plan's statements raise the bound of a bundle, and the bounds at the first place of a loop's body.
 use Rattle.std.specs.Prelude.{ℕ, zero, suc, ◌+◌, ◌-◌, ◌*◌, ◌==◌, Bool, min, max, if◌then◌else◌}
-use Rattle.pp_plan.specs.Limits.{most_slots}
+use Rattle.pp_settings.specs.Limits.{most_slots}
 use Rattle.pp_plan.specs.Tree.{Step, fix, unfix, latch, unlatch, gather, scatter, Statement, step, loop, choice}
 use Rattle.pp_plan.specs.Tree.{Sequence, skip, andthen, Alternatives, none, either, scatters}
 use Rattle.pp_cert.specs.Notes.{Entries, bound_at, with_bound}

@@ -14,10 +14,8 @@ use crate::entries::{bound_at, bounded, gathered, held_as, inserted, removed, sc
 use crate::growth::first_bound;
 use pp_cert::{Entry, Held, Note, most_counted};
 use pp_plan::{Body, Branches, Plan, Stmt};
+use pp_settings::limits::MOST_SLOTS;
 use std::alloc::{AllocError, Global};
-
-/// How many slots a plan may have.
-const SLOTS: u8 = 32;
 
 /// What is noted at the first place of the body of a loop of so many turns, where this is noted just before the loop.
 /// `AllocError` where memory runs out.
@@ -34,7 +32,7 @@ pub fn first_note(
 {
     let stop = most_counted(&plan.layout());
     let mut first = Vec::from_slice(alloc, before)?;
-    for slot in 0..SLOTS {
+    for slot in 0..MOST_SLOTS {
         if plan.is_bundle(slot) {
             first = risen(alloc, turns, body, slot, first, stop)?;
         }

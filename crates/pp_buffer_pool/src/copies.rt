@@ -6,10 +6,11 @@ ghost use Rattle.pp_buffer_pool.specs.Copies.{CatchesUp, Ends};
 
 use pp_device::image;
 use pp_pool::{End, Held, Kind, Loan, Work};
+use pp_settings::limits::FEWEST_PAGE_BYTES;
 use std::alloc::{AllocError, Global};
 
-/// As many bytes of an image as a work sees at least.
-const SHORTEST: usize = 64;
+/// As many bytes of an image as a work sees at least: as many as every page has.
+const SHORTEST: usize = FEWEST_PAGE_BYTES as usize;
 
 /// A page that a work has still to see.
 #[derive(Clone, Copy, Debug)]

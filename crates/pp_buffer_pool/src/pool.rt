@@ -1,7 +1,7 @@
 //! The pool, which threads share by reference.
 
 ghost use Rattle.std.specs.Prelude.{◌≡◌, ◌+◌, ◌*◌, ◌≤◌, None, IfOk, IfErr, OnOk, vec_len, length};
-ghost use Rattle.pp_cert.specs.Limits.{step_events, plan_events};
+ghost use Rattle.pp_settings.specs.Limits.{step_events, plan_events};
 ghost use Rattle.pp_hall.specs.Calls.{OpenFails, open_fault};
 ghost use Rattle.pp_buffer_pool.specs.Halls.{StatsOfSome, DirtyInSome, RefusesSome, ClosesSome, KeepsSome, AbandonsSome};
 

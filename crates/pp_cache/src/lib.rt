@@ -9,7 +9,7 @@
 //! a small name, and has a [`Cache`] of the names.
 #![tactic(auto)]
 
-pub use cache::Cache;
+pub use cache::{Cache, MOST_KEYS};
 pub use create::Create;
 pub use fetched::Fetched;
 pub use left::Left;

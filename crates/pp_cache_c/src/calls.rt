@@ -14,12 +14,9 @@ use crate::counts::Counts;
 use crate::handle::{Handle, Kept, put, take};
 use crate::place::Place;
 use crate::status::Status;
-use pp_cache::{Create, Fetched};
+use pp_cache::{Create, Fetched, MOST_KEYS};
 use pp_keyed::KeyedCache;
 use std::alloc::Global;
-
-/// Each key is below this number.
-const MOST_KEYS: u32 = 4_294_967_292;
 
 // ---- a cache
 

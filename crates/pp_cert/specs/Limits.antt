@@ -1,13 +1,14 @@
 -- The limits of certificates and of what they claim.
 use Rattle.std.specs.Prelude.{ℕ, ◌+◌, max}
 use Rattle.pp_settings.specs.Layout.{Geometry}
+use Rattle.pp_settings.specs.Limits.{most_slots}
 
--- The most notes, and the most entries in a note.
+-- The most notes, and the most entries in a note: one for each slot.
 abbrev pub most_notes : ℕ
 most_notes = 70000
 
 abbrev pub most_entries : ℕ
-most_entries = 32
+most_entries = most_slots
 
 -- The greatest bound of a bundle in a pool with few frames.
 abbrev pub usual_bound : ℕ
@@ -29,10 +30,3 @@ most_steps = 1000000
 -- Where counting actions stops: one more than the steps that are allowed.
 abbrev pub counted : ℕ
 counted = most_steps + 1
-
--- The most events that a journal has for one step of a plan, and the most that it has for a plan besides.
-abbrev pub step_events : ℕ
-step_events = 3
-
-abbrev pub plan_events : ℕ
-plan_events = 34

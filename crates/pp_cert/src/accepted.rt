@@ -1,11 +1,11 @@
 //! An accepted plan.
 
 ghost use Rattle.std.specs.Prelude.{◌≡◌, ◌+◌, ◌*◌};
-ghost use Rattle.pp_cert.specs.Limits.{step_events, plan_events};
+ghost use Rattle.pp_settings.specs.Limits.{step_events, plan_events};
 
-use crate::limits::{PLAN_EVENTS, STEP_EVENTS};
 use pp_plan::Plan;
 use pp_settings::Layout;
+use pp_settings::limits::{PLAN_EVENTS, STEP_EVENTS};
 use std::marker::Model;
 
 /// A plan whose certificate was accepted. Only `check` makes one.

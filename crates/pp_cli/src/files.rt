@@ -23,6 +23,7 @@ use pp_judge::{
     AnnotateFiles, AuditFiles, CheckFiles, Contents, DeviceSize, DrawFiles, Exit, Figures,
     FileFault, SimulateFiles, device_size, exit_of,
 };
+use pp_settings::limits::MOST_BOUNDED_EVENTS;
 use pp_words::{AnnotatePaths, AuditPaths, CheckPaths, DrawPaths, FormatPaths, Job, SimulatePaths};
 use std::alloc::Global;
 use std::fs;
@@ -167,7 +168,7 @@ fn show_figures<P: Write>(exit: &Exit<'_>, terminal: Option<&mut P>) {
     if let (Exit::Done(Figures { peak, steps, cost }), Some(terminal)) = (exit, terminal) {
         let _ = writeln!(
             terminal,
-            "peak {peak} of the pool's frames, at most {steps} steps, cost {cost} of 4000000"
+            "peak {peak} of the pool's frames, at most {steps} steps, cost {cost} of {MOST_BOUNDED_EVENTS}"
         );
     }
 }

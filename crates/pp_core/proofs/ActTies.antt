@@ -7,7 +7,7 @@ use Rattle.std.proofs.lemmas.List.{length-append, set-set}
 use Rattle.pp_plan.specs.declared.mode.Mode.{Mode}
 use Rattle.pp_plan.specs.declared.action.Action.{Action}
 use Rattle.pp_plan.specs.declared.action.Action.TheVariants as action
-use Rattle.pp_plan.specs.Limits.{most_slots}
+use Rattle.pp_settings.specs.Limits.{most_slots}
 use Rattle.pp_plan.specs.Terms.{Terms}
 use Rattle.pp_plan.specs.PlanTraces.{PlanAsks}
 use Rattle.pp_cursor.specs.Positions.{Spot}

@@ -8,7 +8,8 @@ use Rattle.pp_frames.specs.Least.{least_below}
 use Rattle.pp_frames.specs.Marks.{page_count, stamp_of, has_reached, first_stamped}
 use Rattle.pp_model.specs.Pool.{Running, State}
 use Rattle.pp_model.specs.Turns.{is_idle}
-use Rattle.pp_model.specs.Renewing.{mark_limit, is_at_rest, first_high_page, renew_error_where, renew_error, renewed}
+use Rattle.pp_settings.specs.Limits.{mark_limit}
+use Rattle.pp_model.specs.Renewing.{is_at_rest, first_high_page, renew_error_where, renew_error, renewed}
 use Rattle.pp_model.proofs.Journeys.{renewed_reached}
 use Rattle.pp_model.proofs.MarkChanges.{count_told}
 use Rattle.pp_model.proofs.Rest.{Rests, can_renew, bound_renews}

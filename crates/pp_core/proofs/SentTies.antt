@@ -2,7 +2,7 @@
 use Rattle.std.proofs.Common.{◌≡◌, ◌∙◌, ℕ, Some, List, sym, ap, subst}
 use Rattle.std.specs.Prelude.{slice_set}
 use Rattle.pp_plan.specs.declared.action.Action.{Action}
-use Rattle.pp_plan.specs.Limits.{most_slots}
+use Rattle.pp_settings.specs.Limits.{most_slots}
 use Rattle.pp_cert.specs.Accepted.{Acceptance}
 use Rattle.pp_arc.specs.FourLists.{FourLists}
 use Rattle.pp_model.specs.Pool.{Stage, Running, State}

@@ -1,6 +1,8 @@
 -- What the calls of a device's answer need of what the core keeps, and what they do to it.
 use Rattle.std.specs.Prelude.{◌≡◌, ℕ, ◌+◌, ◌-◌, ◌*◌, ◌<◌, ◌≤◌, ◌^◌, Bool, false, not, ◌||◌, ◌==◌, Option, None, Some}
 use Rattle.std.specs.Prelude.{Result, Ok, Err, length, slice_set, IsTrue, IsFalse}
+use Rattle.pp_model.specs.Budget.{spare_writing, spare_reading}
+use Rattle.pp_settings.specs.Limits.{most_slots}
 use Rattle.pp_cert.specs.Accepted.{Acceptance}
 use Rattle.pp_arc.specs.FourLists.{is_cached}
 use Rattle.pp_arc.specs.Figure.{forget, bring_back}
@@ -59,7 +61,7 @@ pub record CanLose (f : Parts) (w spare : ℕ) : Type 0 where
   pub runs : Runs f w seat accepted
   pub actions : seat.actions ≤ accepted.steps
   pub short : accepted.steps ≤ 1000000
-  pub holds : seat.holds ≤ 32
+  pub holds : seat.holds ≤ most_slots
   pub budget : left_of accepted seat spare ≤ f.budget
   pub small : f.budget < 2 ^ 62
   pub spare_is_small : spare ≤ 100
@@ -83,7 +85,7 @@ written f w x slot page v =
 
 -- The page can lose its pin and its frame, and the victim can have the frame again.
 pub record CanBring (f : Parts) (w page victim : ℕ) : Type 0 where
-  pub lose : CanLose f w 32
+  pub lose : CanLose f w spare_writing
   pub pin : pins_of f.marks page ≡ 1
   pub unlatched : latch_count (latches_of f.marks page) ≡ 0
   pub placed : Some (frame_at f.marks page) ≡ frame_of f.marks page
@@ -98,7 +100,7 @@ pub record CanBring (f : Parts) (w page victim : ℕ) : Type 0 where
 
 abbrev pub brought : Parts → ℕ → Seat → Acceptance → (page victim : ℕ) → Parts
 brought f w x a page v =
-    record (lost f w x a 32) {
+    record (lost f w x a spare_writing) {
       marks = with_frame (displaced f.marks page) v (Some (frame_at f.marks page));
       lists = bring_back f.lists page v;
       in_flight = slice_set (slice_set f.in_flight page false) v false;
@@ -108,14 +110,14 @@ brought f w x a page v =
 
 -- The page can lose its pin and its frame.
 pub record CanForget (f : Parts) (w page : ℕ) : Type 0 where
-  pub lose : CanLose f w 31
+  pub lose : CanLose f w spare_reading
   pub pin : pins_of f.marks page ≡ 1
   pub unlatched : latch_count (latches_of f.marks page) ≡ 0
   pub flight : page < length f.in_flight
 
 abbrev pub forgotten : Parts → ℕ → Seat → Acceptance → (page : ℕ) → Parts
 forgotten f w x a page =
-    record (lost f w x a 31) {
+    record (lost f w x a spare_reading) {
       marks = displaced f.marks page;
       lists = forget f.lists page;
       in_flight = slice_set f.in_flight page false;

@@ -1,6 +1,8 @@
 -- What the moves of a worker that ends or leaves its plan need of what the core keeps, and what they do to it.
 use Rattle.std.specs.Prelude.{◌≡◌, ℕ, ◌+◌, ◌-◌, ◌*◌, ◌<◌, ◌≤◌, ◌^◌, Bool, true, false, Option, None, Some, length}
 use Rattle.std.specs.Prelude.{slice_set}
+use Rattle.pp_model.specs.Budget.{spare_acting}
+use Rattle.pp_settings.specs.Limits.{most_slots, step_events}
 use Rattle.pp_bundles.specs.Bundles.{place_count}
 use Rattle.pp_cert.specs.Accepted.{Acceptance}
 use Rattle.pp_frames.specs.Marks.{pins_of, latch_count, latches_of}
@@ -36,7 +38,7 @@ pub record CanCount (f : Parts) (w : ℕ) : Type 0 where
 
 -- The moves that the bound counts for it.
 abbrev pub left_of : Seat → Acceptance → ℕ
-left_of x a = 3 * (a.steps - x.actions) + 33
+left_of x a = step_events * (a.steps - x.actions) + spare_acting
 
 -- Its peak runs, and so many moves are left.
 pub record CanEnd (f : Parts) (w left : ℕ) : Type 0 where
@@ -55,8 +57,8 @@ ended f w peak left =
 pub record CanEmpty (f : Parts) (w slot : ℕ) : Type 0 where
   pub seat : Seat
   pub is_in : IsIn f w seat
-  pub width : length seat.slots ≡ 32
-  pub few : slot < 32
+  pub width : length seat.slots ≡ most_slots
+  pub few : slot < most_slots
   pub some : 0 < seat.holds
 
 -- The slot holds nothing from now on.

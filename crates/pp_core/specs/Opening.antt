@@ -1,5 +1,6 @@
 -- A core in which nothing was done yet.
 use Rattle.std.specs.Prelude.{◌*◌, false, None, [], replicate}
+use Rattle.pp_settings.specs.Limits.{most_slots}
 use Rattle.pp_settings.specs.Layout.{page_count}
 use Rattle.pp_settings.specs.Settings.{Configuration, geometry_of}
 use Rattle.pp_arc.specs.FourLists.{empty_lists}
@@ -26,7 +27,7 @@ opening_parts k =
       seats = replicate k.workers None;
       lists = empty_lists k.layout.frames (page_count k.layout);
       marks = opening_marks k.layout.frames (page_count k.layout);
-      bundles = empty_stacks (32 * k.workers) k.layout.frames;
+      bundles = empty_stacks (most_slots * k.workers) k.layout.frames;
       in_flight = replicate (page_count k.layout) false;
       flush = None;
       running = 0;

@@ -1,6 +1,7 @@
 -- What a core tells of its state.
 use Rattle.std.specs.Prelude.{ℕ, nat_lt, ◌&&◌, ◌==◌, Bool, true, false, if◌then◌else◌, Option, None, Some, option_map, unwrap_or}
 use Rattle.std.specs.Prelude.{List, length}
+use Rattle.pp_settings.specs.Limits.{most_slots}
 use Rattle.pp_plan.specs.declared.action.Ask.{Ask}
 use Rattle.pp_cert.specs.declared.note.Held.{Held}
 use Rattle.pp_cert.specs.Held.{Holding, holding_at}
@@ -172,7 +173,7 @@ ask_holding_seat o slot page held = if is_page_so page held (held_seat o slot) t
 -- How many pages stand in the stack of the slot; 0 of a slot or a worker that isn't there.
 abbrev pub gathered_in : PageStacks → (workers w slot : ℕ) → ℕ
 gathered_in stacks workers w slot =
-    if nat_lt slot 32 && nat_lt w workers then length (pages_at stacks (bundle_place w slot)) else 0
+    if nat_lt slot most_slots && nat_lt w workers then length (pages_at stacks (bundle_place w slot)) else 0
 
 abbrev pub errand_at : Phase → Option (ℕ × ℕ × Option ℕ)
 errand_at Acting = None

@@ -7,7 +7,8 @@ use Rattle.pp_settings.specs.declared.span.Span.{Span}
 use Rattle.pp_settings.specs.declared.span.Span.TheVariants.{Bounded, Endless}
 use Rattle.pp_model.specs.declared.refusals.RenewError.{RenewError}
 use Rattle.pp_model.specs.Pool.{State}
-use Rattle.pp_model.specs.Renewing.{mark_limit, renew_error_where, renew_error, renewed}
+use Rattle.pp_settings.specs.Limits.{mark_limit}
+use Rattle.pp_model.specs.Renewing.{renew_error_where, renew_error, renewed}
 use Rattle.pp_core.specs.Parts.{Parts}
 use Rattle.pp_core.specs.StandsFor.{StandsFor}
 

@@ -1,5 +1,6 @@
 -- A worker in its plan, as the core keeps it, and what its calls need and do.
 use Rattle.std.specs.Prelude.{◌≡◌, ℕ, ◌+◌, ◌<◌, ◌≤◌, ◌^◌, None, List, [], ◌∷◌, ◌++◌, length, replicate}
+use Rattle.pp_settings.specs.Limits.{most_slots}
 use Rattle.pp_plan.specs.declared.action.Action.{Action}
 use Rattle.pp_plan.specs.declared.action.Action.TheVariants.{Fix, Unfix, Latch, Unlatch, Gather, Scatter, Choose}
 use Rattle.pp_plan.specs.Terms.{Terms}
@@ -18,16 +19,16 @@ pub record IsBegun (plan : Terms) (k at : ℕ) (x : Seat) : Type 0 where
   pub ask : x.ask ≡ asked plan []
   pub actions : x.actions ≡ 0
   pub holds : x.holds ≡ 0
-  pub slots : x.slots ≡ replicate 32 None
+  pub slots : x.slots ≡ replicate most_slots None
   pub phase : x.phase ≡ Acting
 
 -- The slot that an action needs, and how many slots hold something before it.
 abbrev pub FitsSlots : Action → (count slots : ℕ) → Type 0
-FitsSlots (Fix slot page) count slots = (slot < slots) × (count ≤ 32)
+FitsSlots (Fix slot page) count slots = (slot < slots) × (count ≤ most_slots)
 FitsSlots (Unfix slot) count slots = (slot < slots) × (0 < count)
 FitsSlots (Latch slot m) count slots = slot < slots
 FitsSlots (Unlatch slot) count slots = slot < slots
-FitsSlots (Gather slot page) count slots = (slot < slots) × (count ≤ 32)
+FitsSlots (Gather slot page) count slots = (slot < slots) × (count ≤ most_slots)
 FitsSlots (Scatter slot) count slots = (slot < slots) × (0 < count)
 FitsSlots (Choose i) count slots = Unit {0}
 

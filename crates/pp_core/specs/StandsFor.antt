@@ -1,7 +1,7 @@
 -- What a core stands for: how what it keeps hangs together with a state of the model. The core keeps cursors, counters
 -- and one map of marks; the state has lists of actions done.
 use Rattle.std.specs.Prelude.{◌≡◌, ℕ, ◌+◌, Bool, Option, None, Some, option_map, List, length, map, slice_get}
-use Rattle.pp_plan.specs.Limits.{most_slots}
+use Rattle.pp_settings.specs.Limits.{most_slots}
 use Rattle.pp_cursor.specs.Cursor as cursor
 use Rattle.pp_cert.specs.Held.{holding_at}
 use Rattle.pp_cert.specs.Accepted.{Acceptance}
@@ -48,7 +48,7 @@ pub record FitsRunning (plans : List Acceptance) (x : Seat) (r : Running) : Type
   -- how many slots hold something
   pub holds : x.holds ≡ held_slots most_slots (holdings r)
   -- a slot holds what the worker holds in it, of a bundle the page that was gathered last
-  pub width : length x.slots ≡ 32
+  pub width : length x.slots ≡ most_slots
   pub slots : (slot : ℕ) → hold_at x.slots slot ≡ option_map hold_of (holding_at (holdings r) slot)
   pub phase : FitsStage x.phase r.stage
 

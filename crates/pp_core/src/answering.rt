@@ -15,6 +15,14 @@ ghost use Rattle.pp_core.specs.Answering.{brought, CanForget, forgotten, CanLoad
 use crate::seat::Phase;
 use crate::table::Table;
 use pp_model::{Came, Cause, Failure, Move, Reply};
+use pp_settings::limits::{STAMP_LIMIT, STEP_EVENTS};
+
+/// What the bound has for a worker whose victim is written, besides three moves for each action that is left: `spare_writing` of
+/// pp_model's Budget.antt.
+const SPARE_WRITING: u64 = 32;
+
+/// What it has for a worker whose page is read: `spare_reading`.
+const SPARE_READING: u64 = 31;
 
 /// A victim that is written back, so that the page can have its frame and be fixed into the slot.
 #[derive(Clone, Copy, Debug, PartialEq, Eq)]
@@ -95,7 +103,7 @@ impl Table {
         ensures { (x : Seat) (a : Acceptance) → Runs (parts_of self.old) worker x a →
             parts_of self.new ≡ brought (parts_of self.old) worker x a page victim }
     {
-        self.lose(worker, 32);
+        self.lose(worker, SPARE_WRITING);
         let frame = self.frame_at(page);
         self.displace(page);
         self.marks.place(victim, frame);
@@ -113,7 +121,7 @@ impl Table {
         match &mut self.seats[worker as usize] {
             Some(seat) => {
                 let steps = self.plans[seat.place as usize].steps();
-                let left = 3 * (steps - u64::from(seat.actions)) + spare;
+                let left = STEP_EVENTS * (steps - u64::from(seat.actions)) + spare;
                 self.budget = self.budget - left + u64::from(seat.holds) + 1;
                 seat.phase = Phase::Leaving;
             }
@@ -158,7 +166,7 @@ impl Table {
         }
         match self.marks.stamp(page) {
             Some(mark) => mark != stamp,
-            None => stamp >= 1 << 62,
+            None => stamp >= STAMP_LIMIT,
         }
     }
 
@@ -168,7 +176,7 @@ impl Table {
         ensures { (x : Seat) (a : Acceptance) → Runs (parts_of self.old) worker x a →
             parts_of self.new ≡ forgotten (parts_of self.old) worker x a page }
     {
-        self.lose(worker, 31);
+        self.lose(worker, SPARE_READING);
         self.displace(page);
         self.directory.forget(page, &mut self.search);
         self.in_flight.remove(page);

@@ -1,6 +1,7 @@
 //! What is left to decide in a turn, and who decides it.
 
 ghost use Rattle.std.specs.Prelude.{◌≡◌, ◌<◌, ◌≤◌, ◌+◌, ℕ, Bool, slice_get};
+ghost use Rattle.pp_settings.specs.Limits.{page_numbers};
 ghost use Rattle.pp_model.specs.declared.moves.Came.{Came};
 ghost use Rattle.pp_core.specs.declared.seat.Seat.{Seat};
 ghost use Rattle.pp_core.specs.Parts.{parts_of};
@@ -34,7 +35,7 @@ pub trait Decide {
     /// The page that a worker fixes, of a region that has so many pages from the first on.
     fn page(&mut self, region: u8, first: u32, count: u32) -> u32
         requires some { 1 ≤ count }
-        requires ends { first + count ≤ 4294967292 }
+        requires ends { first + count ≤ page_numbers }
         ensures from { first ≤ result }
         ensures below { result < first + count }
         ensures picked { picks self.old region first count result self.new };

@@ -16,6 +16,11 @@ use crate::table::{Table, bundle_place};
 use pp_cert::Held;
 use pp_model::{Cause, Ending, Move, Reply};
 use pp_plan::Ask;
+use pp_settings::limits::STEP_EVENTS;
+
+/// What the bound has for a worker that acts, besides three moves for each action that is left: `spare_acting` of pp_model's
+/// Budget.antt.
+const SPARE_ACTING: u64 = 33;
 
 impl Table {
     /// Whether the worker leaves its plan.
@@ -83,7 +88,7 @@ impl Table {
         }
     }
 
-    /// The moves that the bound counts for a worker that acts: three for each action that is left, and 33.
+    /// The moves that the bound counts for a worker that acts: three for each action that is left, and what it may need besides.
     fn left_of_plan(&self, worker: u32) -> u64
         requires { CanCount (parts_of self.now) worker }
         ensures { (x : Seat) (a : Acceptance) → Runs (parts_of self.now) worker x a → result ≡ left_of x a }
@@ -91,7 +96,7 @@ impl Table {
         match self.seats.get(worker as usize) {
             Some(Some(seat)) => {
                 let steps = self.plans[seat.place as usize].steps();
-                3 * (steps - u64::from(seat.actions)) + 33
+                STEP_EVENTS * (steps - u64::from(seat.actions)) + SPARE_ACTING
             }
             _ => unreachable!(),
         }

@@ -7,7 +7,7 @@ ghost use Rattle.pp_core.specs.Opening.{kept_of, opening_parts};
 
 use crate::seat::Seat;
 use crate::submitting::{most_kept, plan_limit};
-use crate::table::Table;
+use crate::table::{STACKS, Table};
 use circular_buffer::HeapCircularBuffer;
 use pp_arc::{Directory, Search};
 use pp_bundles::Bundles;
@@ -41,7 +41,7 @@ impl Table {
         let directory = Directory::new(alloc, layout.frames(), pages)?;
         let search = Search::new(alloc, layout.frames(), pages)?;
         let marks = Marks::new(alloc, layout.frames(), pages)?;
-        let bundles = Bundles::new(alloc, 32 * settings.workers(), layout.frames())?;
+        let bundles = Bundles::new(alloc, STACKS * settings.workers(), layout.frames())?;
         let in_flight = NumberSet::new(alloc, pages)?;
         let flushes = settings.flushes();
         // Each flush has a begin and an end.

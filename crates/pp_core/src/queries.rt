@@ -1,11 +1,12 @@
 //! What the table tells.
 
 ghost use Rattle.std.specs.Prelude.{◌≡◌, ◌+◌, ◌^◌, ◌≤◌, length, slice_get};
+ghost use Rattle.pp_settings.specs.Limits.{most_workers};
 ghost use Rattle.pp_frames.specs.Marks.{all_dirty};
 ghost use Rattle.pp_core.specs.Queries.{idle_seat, held_seat, ask_holding_seat, gathered_in, errand_seat};
 
 use crate::seat::Phase;
-use crate::table::{Table, bundle_place};
+use crate::table::{STACKS, Table, bundle_place};
 use pp_cert::Held;
 use pp_plan::Ask;
 
@@ -51,10 +52,10 @@ impl Table {
 
     /// How many pins the worker's slot has as a bundle.
     pub(crate) fn gathered(&self, worker: u32, slot: u32) -> u32
-        requires { length self.now.seats.items ≤ 1024 }
+        requires { length self.now.seats.items ≤ most_workers }
         ensures { result ≡ gathered_in self.now.bundles (length self.now.seats.items) worker slot }
     {
-        if slot >= 32 || worker as usize >= self.seats.len() {
+        if slot >= STACKS || worker as usize >= self.seats.len() {
             return 0;
         }
         self.bundles.count(bundle_place(worker, slot))

@@ -11,9 +11,7 @@ ghost use Rattle.pp_core.specs.Renewals.{is_resting, renew_fault, kept_plans, re
 use crate::seat::Seat;
 use crate::table::Table;
 use pp_model::RenewError;
-
-/// The known marks of a core that is renewed are below this.
-const MARK_LIMIT: u64 = 1 << 63;
+use pp_settings::limits::MARK_LIMIT;
 
 /// Whether each seat is an idle worker's.
 fn are_idle(seats: &[Option<Seat>]) -> bool

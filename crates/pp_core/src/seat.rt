@@ -1,6 +1,7 @@
 //! A worker in its plan.
 
 ghost use Rattle.std.specs.Prelude.{◌≡◌, ◌<◌, ◌≤◌, ◌+◌, ◌-◌, ◌^◌, IfSome, Some, None, List, [], ◌∷◌, ◌++◌, length, slice_set};
+ghost use Rattle.pp_settings.specs.Limits.{most_slots};
 ghost use Rattle.pp_cursor.specs.Cursor.{StandsFor};
 ghost use Rattle.pp_cursor.specs.Asked.{asked};
 ghost use Rattle.pp_plan.specs.declared.action.Action.{Action};
@@ -12,9 +13,10 @@ ghost use Rattle.pp_core.specs.Seats.{IsBegun, FitsSlots, CanDo, Did, counted};
 use pp_cert::Held;
 use pp_cursor::Cursor;
 use pp_plan::{Action, Ask, Plan};
+use pp_settings::limits;
 
-/// The most slots that a plan has.
-pub(crate) const MOST_SLOTS: usize = 32;
+/// The most slots that a plan has, as the length of an array.
+const MOST_SLOTS: usize = limits::MOST_SLOTS as usize;
 
 /// A page that a slot holds, and how. Of a bundle it is the page that was gathered last.
 #[derive(Clone, Copy, Debug, PartialEq, Eq)]
@@ -121,7 +123,7 @@ impl Seat {
     /// The slot holds the page from now on.
     fn fill(&mut self, slot: u8, page: u32)
         requires slot { slot < length self.old.slots }
-        requires room { self.old.holds ≤ 32 }
+        requires room { self.old.holds ≤ most_slots }
         ensures { self.new ≡ record self.old {
           slots = slice_set self.old.slots slot (Some (plain_hold page));
           holds = self.old.holds + 1;
@@ -138,7 +140,7 @@ impl Seat {
     /// The bundle has the page from now on, beside those that it has.
     fn gather(&mut self, slot: u8, page: u32)
         requires slot { slot < length self.old.slots }
-        requires room { self.old.holds ≤ 32 }
+        requires room { self.old.holds ≤ most_slots }
         ensures { self.new ≡ record self.old {
           slots = slice_set self.old.slots slot (Some (bundle_hold page));
           holds = count_after (Gather slot page) self.old.slots self.old.holds;

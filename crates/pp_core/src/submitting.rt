@@ -19,19 +19,8 @@ use crate::error::PrepareError;
 use crate::table::Table;
 use pp_cert::Accepted;
 use pp_model::SubmitError;
+use pp_settings::limits::{MOST_BOUNDED_EVENTS, MOST_ENDLESS_EVENTS, MOST_PLANS, MOST_PREPARED};
 use pp_settings::{Layout, Span};
-
-/// The most plans that are submitted in a bounded life.
-const BOUNDED_PLANS: usize = 256;
-
-/// The most plans that are prepared in an endless life.
-const PREPARED_PLANS: usize = 4096;
-
-/// The most events besides submits of a bounded life.
-const BOUNDED_EVENTS: u64 = 4_000_000;
-
-/// The most events besides submits of an endless life.
-const ENDLESS_EVENTS: u64 = 1 << 61;
 
 /// Whether two layouts are the same.
 fn is_same_layout(left: &Layout, right: &Layout) -> bool
@@ -45,8 +34,8 @@ pub(crate) fn most_kept(span: Span) -> usize
     ensures { result ≡ most_kept span }
 {
     match span {
-        Span::Bounded => BOUNDED_PLANS,
-        Span::Endless { .. } => PREPARED_PLANS,
+        Span::Bounded => MOST_PLANS,
+        Span::Endless { .. } => MOST_PREPARED,
     }
 }
 
@@ -55,7 +44,7 @@ pub(crate) fn plan_limit(span: Span) -> u64
     ensures { result ≡ plan_limit span }
 {
     match span {
-        Span::Bounded => BOUNDED_PLANS as u64,
+        Span::Bounded => MOST_PLANS as u64,
         Span::Endless { waiting } => u64::from(waiting),
     }
 }
@@ -65,8 +54,8 @@ fn most_events(span: Span) -> u64
     ensures { result ≡ most_events span }
 {
     match span {
-        Span::Bounded => BOUNDED_EVENTS,
-        Span::Endless { .. } => ENDLESS_EVENTS,
+        Span::Bounded => MOST_BOUNDED_EVENTS,
+        Span::Endless { .. } => MOST_ENDLESS_EVENTS,
     }
 }
 

@@ -20,6 +20,7 @@ use pp_cert::{Accepted, Held};
 use pp_frames::{Marks, Mode, NumberSet};
 use pp_model::{Cause, Delay, Move, Reply};
 use pp_plan::{Action, Ask};
+use pp_settings::limits::MOST_SLOTS;
 use pp_settings::{Layout, Settings, Span};
 use std::alloc::{AllocError, Global};
 
@@ -35,7 +36,7 @@ pub struct Flush {
 pub struct Table {
     /// The layout of all plans.
     pub(crate) layout: Layout,
-    /// How many flushes a run may begin, and how many of them are left.
+    /// How many flushes a life may begin, and how many of them are left.
     pub(crate) flushes: u64,
     pub(crate) flushes_left: u64,
     /// How long a life may last.
@@ -73,13 +74,16 @@ pub struct Table {
     ghost queue: { plan_limit span ≤ waiting.capacity },
 }
 
+/// How many stacks a worker has: one for each slot.
+pub(crate) const STACKS: u32 = MOST_SLOTS as u32;
+
 /// Where the stack of the worker's slot is.
 #[inline(always)]
 pub(crate) fn bundle_place(worker: u32, slot: u32) -> u32
     requires { bundle_place worker slot < 2 ^ 32 }
     ensures { result ≡ bundle_place worker slot }
 {
-    worker * 32 + slot
+    worker * STACKS + slot
 }
 
 impl Table {

@@ -1,6 +1,7 @@
 //! Whose turn is next. It looks at the workers and at the pages that their plans ask to latch, and at no other page.
 
 ghost use Rattle.std.specs.Prelude.{◌≡◌, ◌≤◌, Option, Some, length, nat_lt};
+ghost use Rattle.pp_settings.specs.Limits.{most_workers};
 ghost use Rattle.pp_plan.specs.declared.action.Ask.{Ask};
 ghost use Rattle.pp_model.specs.Pool.{State, Running};
 ghost use Rattle.pp_model.specs.Moves.{seat_of};
@@ -37,7 +38,7 @@ impl Table {
 
     /// How many workers there are.
     fn workers(&self) -> u32
-        requires { length self.now.seats.items ≤ 1024 }
+        requires { length self.now.seats.items ≤ most_workers }
         ensures { result ≡ length self.now.seats.items }
     {
         self.seats.len() as u32

@@ -1,7 +1,7 @@
 -- How a cursor moves: the words of its private parts.
 use Rattle.std.specs.Prelude.{◌≡◌, ◌<◌, ◌≤◌, ◌^◌, ℕ, zero, suc, ◌+◌, List, [], ◌∷◌, length, slice_index_or}
 use Rattle.pp_settings.specs.Layout.{Geometry}
-use Rattle.pp_plan.specs.Limits.{most_depth}
+use Rattle.pp_settings.specs.Limits.{most_depth}
 use Rattle.pp_plan.specs.Tree.{Statement, step, loop, choice, Sequence, skip, andthen}
 use Rattle.pp_plan.specs.Tree.{branch_count}
 use Rattle.pp_plan.specs.Traces.{IsTrace}

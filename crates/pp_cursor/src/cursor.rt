@@ -17,10 +17,11 @@ ghost use Rattle.pp_plan.specs.declared.flat.FlatStep.{FlatStep};
 ghost use Rattle.pp_cursor.specs.Asked.{asked};
 
 use crate::off_plan::OffPlan;
-use pp_plan::{Action, Ask, FlatStep, MOST_DEPTH, Next, Plan};
+use pp_plan::{Action, Ask, FlatStep, Next, Plan};
+use pp_settings::limits::MOST_DEPTH;
 use std::marker::Model;
 
-/// How many loops and choices a place may be inside.
+/// How many loops and choices a place may be inside, as the length of an array.
 const MOST_ENTRIES: usize = MOST_DEPTH as usize;
 
 /// A loop or a choice that a worker is inside: which statement of its body it is, how many turns of it come after

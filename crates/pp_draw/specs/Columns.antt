@@ -4,6 +4,7 @@ use Rattle.std.specs.Prelude.{◌++◌, length, map, slice_index_or}
 use Rattle.std.specs.List.{range_with_len}
 use Rattle.std.specs.Prelude.{true, option_map}
 use Rattle.std.specs.Option.{option_or}
+use Rattle.pp_settings.specs.Limits.{most_slots}
 use Rattle.pp_plan.specs.declared.action.Ask.{Ask}
 use Rattle.pp_plan.specs.declared.action.Ask.TheVariants as asks
 use Rattle.pp_cert.specs.declared.note.Held.{Held}
@@ -101,7 +102,7 @@ wait_of s w =
     else None
 
 abbrev pub worker_at : State → (w : ℕ) → WorkerAt
-worker_at s w = record { doing = doing_by (seat_of s w); latches = latches_below s w 32; wait = wait_of s w }
+worker_at s w = record { doing = doing_by (seat_of s w); latches = latches_below s w most_slots; wait = wait_of s w }
 
 -- ---- the pages in frames
 

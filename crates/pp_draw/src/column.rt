@@ -2,6 +2,7 @@
 
 ghost use Rattle.std.specs.Prelude.{◌≡◌, IfOk, map};
 ghost use Rattle.std.specs.List.{range_with_len};
+ghost use Rattle.pp_settings.specs.Limits.{most_slots};
 ghost use Rattle.pp_cert.specs.declared.note.Held.{Held};
 ghost use Rattle.pp_frames.specs.Marks.{page_count};
 ghost use Rattle.pp_model.specs.Pool.{State};
@@ -18,10 +19,11 @@ use pp_core::Core;
 use pp_frames::{Marks, Mode};
 use pp_model::{Delay, Move, Reply};
 use pp_plan::Ask;
+use pp_settings::limits::MOST_SLOTS;
 use std::alloc::{AllocError, Global};
 
-/// The most slots that a plan has.
-const SLOTS: u32 = 32;
+/// The most slots that a plan has, as a core numbers them.
+const SLOTS: u32 = MOST_SLOTS as u32;
 
 /// What a worker is at.
 #[derive(Clone, Copy)]
@@ -130,7 +132,7 @@ fn exclusive_in(held: Option<(u32, Held)>) -> Option<u32>
 
 /// What the worker has latched.
 fn latches_of(core: &Core, worker: u32) -> Latches
-    ensures { (s : State) → StandsFor core.now s → result ≡ latches_below s worker 32 }
+    ensures { (s : State) → StandsFor core.now s → result ≡ latches_below s worker most_slots }
 {
     let mut latches = Latches {
         shared: None,

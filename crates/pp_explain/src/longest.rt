@@ -2,9 +2,7 @@
 
 use pp_cert::MOST_STEPS;
 use pp_plan::{Plan, Stmt};
-
-/// How deep statements stand at most.
-const DEEPEST: u8 = 16;
+use pp_settings::limits::MOST_DEPTH;
 
 /// A loop of more actions than a plan may have.
 #[derive(Clone, Copy)]
@@ -26,7 +24,7 @@ pub(crate) fn multiplied_in(plan: &Plan) -> (u64, Option<Multiplied>) {
         next: 0,
         found: None,
     };
-    let longest = search.body(DEEPEST, plan.body());
+    let longest = search.body(MOST_DEPTH, plan.body());
     (longest, search.found)
 }
 

@@ -5,10 +5,8 @@ use pp_annotate::first_note;
 use pp_cert::{Entry, Note};
 use pp_locate::Step;
 use pp_plan::{Body, Branches, Plan, Stmt};
+use pp_settings::limits::MOST_DEPTH;
 use std::alloc::{AllocError, Global};
-
-/// How deep statements stand at most.
-const DEEPEST: u8 = 16;
 
 /// Where a place lies.
 #[derive(Clone, Copy)]
@@ -138,7 +136,7 @@ impl Walk<'_> {
     /// Walks over the whole plan, up to the place that is wanted.
     fn go(&mut self, alloc: Global) -> Result<(), AllocError> {
         let plan = self.plan;
-        let held = self.statements(alloc, DEEPEST, Step::Key("body"), &[], plan.body())?;
+        let held = self.statements(alloc, MOST_DEPTH, Step::Key("body"), &[], plan.body())?;
         if let Some(held) = held {
             self.arrive(alloc, Role::End, self.number, &held, &[])?;
         }

@@ -4,25 +4,11 @@ use crate::plans::certificate_of;
 use crate::source::Source;
 use pp_locate::Said;
 use pp_model::SubmitError;
+use pp_settings::limits::{
+    MOST_BOUNDED_EVENTS, MOST_ENDLESS_EVENTS, MOST_PLANS, MOST_PREPARED, PLAN_EVENTS, STEP_EVENTS,
+};
 use pp_settings::{Settings, Span};
 use std::alloc::{AllocError, Global};
-
-/// How many plans a pool takes in at most in a bounded life.
-const MOST_PLANS: usize = 256;
-
-/// How many plans a pool keeps at most in an endless life.
-const MOST_KEPT: usize = 4_096;
-
-/// How many events the journal of a bounded life has at most.
-const MOST_EVENTS: u64 = 4_000_000;
-
-/// How many events an endless life has at most: 2^61.
-const MOST_ENDLESS_EVENTS: u64 = 2_305_843_009_213_693_952;
-
-/// How many events a journal has at most for a step of a plan, and for a plan besides.
-const STEP_EVENTS: u64 = 3;
-
-const PLAN_EVENTS: u64 = 34;
 
 /// The number of the plan that a new pool with these settings doesn't take in, where it takes them in by their order, and
 /// what is said of it. Nothing where it is none of these that it refuses.
@@ -42,9 +28,9 @@ pub(crate) fn submit_said(
 /// The number of the plan that a new pool doesn't keep beside the earlier ones, where its life has no end, and what is said of it.
 pub(crate) fn unkept_said(alloc: Global) -> Result<(usize, Said), AllocError> {
     let text = format!(in alloc;
-        "it is plan {MOST_KEPT}, counted from 0: in an endless life a pool keeps at most {MOST_KEPT} plans"
+        "it is plan {MOST_PREPARED}, counted from 0: in an endless life a pool keeps at most {MOST_PREPARED} plans"
     )?;
-    Ok((MOST_KEPT, Said::of(text)))
+    Ok((MOST_PREPARED, Said::of(text)))
 }
 
 /// The number of the plan that is one too many for a new pool whose life lasts so long, and what is said of it.
@@ -69,7 +55,7 @@ fn one_too_many(alloc: Global, span: Span) -> Result<(usize, Said), AllocError> 
 /// How many events a life has at most that lasts so long.
 fn most_events(span: Span) -> u64 {
     match span {
-        Span::Bounded => MOST_EVENTS,
+        Span::Bounded => MOST_BOUNDED_EVENTS,
         Span::Endless { .. } => MOST_ENDLESS_EVENTS,
     }
 }

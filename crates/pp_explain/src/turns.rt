@@ -7,10 +7,8 @@ use pp_model::{Cause, Delay, Move, Reply, Turn};
 use pp_plan::{Ask, Mode, Plan};
 use pp_report::worker_of;
 use pp_settings::Settings;
+use pp_settings::limits::MOST_SLOTS;
 use std::alloc::{AllocError, Global};
-
-/// How many slots a plan has at most.
-const MOST_SLOTS: u8 = 32;
 
 /// A pool to which the lines before a fault were done.
 #[derive(Clone, Copy)]

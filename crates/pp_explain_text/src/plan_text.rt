@@ -7,6 +7,7 @@ use pp_locate::{
 };
 use pp_plan::PlanError;
 use pp_settings::Settings;
+use pp_settings::limits::{MOST_SLOTS, MOST_STATEMENTS};
 use serde_json::Value;
 use std::alloc::{AllocError, Global};
 
@@ -23,9 +24,6 @@ const KINDS_WITH_BUNDLES: [&str; 8] = [
 
 /// The other keys of statements.
 const FIELDS: [&str; 3] = ["region", "mode", "body"];
-
-/// How many statements a plan has at most.
-const MOST_STATEMENTS: u32 = 4_096;
 
 /// What is said of the bytes of a plan whose text is refused so under these settings.
 pub fn plan_said(
@@ -459,13 +457,12 @@ fn range_text(alloc: Global, value: &Value) -> Result<String, AllocError> {
 /// One statement too many, or one slot.
 fn too_many_text(alloc: Global, number: u32, value: &Value) -> Result<String, AllocError> {
     if number >= MOST_STATEMENTS {
-        return String::from_str(
-            alloc,
-            "it is the 4097th: a plan has at most 4096 statements",
+        return format!(in alloc;
+            "it is the 4097th: a plan has at most {MOST_STATEMENTS} statements"
         );
     }
     let slot = quoted(alloc, slot_in(value))?;
-    format!(in alloc; "{slot} is the 33rd name of a slot: a plan has at most 32")
+    format!(in alloc; "{slot} is the 33rd name of a slot: a plan has at most {MOST_SLOTS}")
 }
 
 /// A slot that an earlier statement uses as another kind.

@@ -1,6 +1,7 @@
 -- What the calls of a hall do.
 use Rattle.std.specs.Prelude.{◌≡◌, ◌⊎◌, ℕ, ◌+◌, ◌<◌, ◌≤◌, max, nat_lt, ◌&&◌, ◌==◌, not, Bool, true, false, Option}
 use Rattle.std.specs.Prelude.{None, Some, is_some, is_none, length, replicate, slice_set, slice_index_or, count_by}
+use Rattle.pp_settings.specs.Limits.{bell_count}
 use Rattle.pp_settings.specs.Settings.{Configuration}
 use Rattle.pp_settings.specs.Spans.{is_bounded}
 use Rattle.pp_cert.specs.Accepted.{Acceptance}
@@ -73,7 +74,7 @@ fault_by false false false true = None
 -- Why a hall isn't opened, but for want of memory, with so many devices.
 abbrev pub open_fault : Configuration → (devices : ℕ) → Option OpenError
 open_fault c devices =
-    fault_by (is_bounded c.span) (c.flushes == 0) (nat_lt 32 c.workers) (devices == c.workers + 1)
+    fault_by (is_bounded c.span) (c.flushes == 0) (nat_lt bell_count c.workers) (devices == c.workers + 1)
 
 -- This is the error: the first fault; or there is none, and memory ran out.
 abbrev pub OpenFails : Configuration → (devices : ℕ) → OpenError → Type 0

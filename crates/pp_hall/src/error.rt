@@ -4,10 +4,8 @@ ghost use Rattle.std.specs.Prelude.{◌≡◌};
 ghost use Rattle.pp_settings.specs.declared.span.Span.TheVariants.{Bounded};
 ghost use Rattle.pp_hall.specs.Calls.{open_fault};
 
+use pp_settings::limits::BELLS;
 use pp_settings::{Settings, Span};
-
-/// How many workers a hall has at most: a call tells whom it helps by a bit for each ([`crate::Told`]).
-const MOST_WORKERS: u32 = 32;
 
 /// Why a hall isn't opened.
 #[derive(Clone, Copy, Debug, PartialEq, Eq, thiserror::Error)]
@@ -47,7 +45,8 @@ impl OpenError {
         if settings.flushes() == 0 {
             return Some(OpenError::NoFlushes);
         }
-        if settings.workers() > MOST_WORKERS {
+        // A call tells whom it helps by a bell for each ([`crate::Told`]).
+        if settings.workers() > BELLS {
             return Some(OpenError::TooManyWorkers);
         }
         if devices != settings.workers() as usize + 1 {

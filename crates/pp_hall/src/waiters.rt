@@ -2,6 +2,7 @@
 
 ghost use Rattle.std.specs.Prelude.{◌≡◌, ℕ, ◌≤◌, ◌&&◌, max, true, false, not, None, Some, IfOk, IfErr, IfSome, OnErr};
 ghost use Rattle.std.specs.Prelude.{length, replicate};
+ghost use Rattle.pp_settings.specs.Limits.{bell_count};
 ghost use Rattle.pp_model.specs.Pool.{State};
 ghost use Rattle.pp_vault.specs.StandsFor.{StandsFor};
 ghost use Rattle.pp_admission.specs.Queues.{empty_queue, IsFull, next_in, peak_at, entered, started, left};
@@ -58,7 +59,7 @@ impl Waiters {
         bypass: u32,
         chairs: u32,
     ) -> Result<Waiters, AllocError>
-        requires { chairs ≤ 32 }
+        requires { chairs ≤ bell_count }
         ensures { IfOk result (λ made. made ≡ record {
           queue = empty_queue most bypass;
           sleepers = replicate chairs None;

@@ -3,7 +3,7 @@ use Rattle.std.specs.Prelude.{◌≡◌, ◌⊎◌, ◌+◌, ◌*◌, ℕ, Bool,
 use Rattle.std.specs.Prelude.{String, map, string_bytes, ⊤}
 use Rattle.pp_text.specs.Steps.{Refuses}
 use Rattle.pp_cert.specs.Accepted.{Acceptance}
-use Rattle.pp_cert.specs.Limits.{step_events, plan_events}
+use Rattle.pp_settings.specs.Limits.{step_events, plan_events}
 use Rattle.pp_core.specs.Opening.{kept_of}
 use Rattle.pp_model.specs.Pool.{opening}
 use Rattle.pp_model.specs.Submitting.{after_submits}

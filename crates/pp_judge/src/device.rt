@@ -1,6 +1,7 @@
 //! The device that settings ask for.
 
 ghost use Rattle.std.specs.Prelude.{◌≤◌, IfOk};
+ghost use Rattle.pp_settings.specs.Limits.{page_numbers, fewest_page_bytes, most_page_bytes};
 ghost use Rattle.pp_text.specs.Steps.{Gives};
 ghost use Rattle.pp_judge.specs.Judgement.{device_size_in};
 ghost use Rattle.pp_judge.specs.Steps.{is_want_of_memory, same};
@@ -26,8 +27,8 @@ pub struct DeviceSize {
 pub fn device_size(alloc: Global, settings: &[u8]) -> Result<DeviceSize, JudgeError>
     // Exactly what the definition gives of these bytes, unless memory ran out.
     ensures exact { Gives is_want_of_memory same result (device_size_in settings.now) }
-    ensures pages { IfOk result (λ size. (1 ≤ size.pages) × (size.pages ≤ 4294967292)) }
-    ensures page_bytes { IfOk result (λ size. (64 ≤ size.page_bytes) × (size.page_bytes ≤ 1048576)) }
+    ensures pages { IfOk result (λ size. (1 ≤ size.pages) × (size.pages ≤ page_numbers)) }
+    ensures page_bytes { IfOk result (λ size. (fewest_page_bytes ≤ size.page_bytes) × (size.page_bytes ≤ most_page_bytes)) }
 {
     let settings = settings_in(alloc, settings)?;
     Ok(DeviceSize {

@@ -9,13 +9,10 @@ ghost use Rattle.pp_cache.specs.Cache.{without_victim, left_of};
 
 use crate::keys::{is_from, lower};
 use crate::names::{give, left_by_key, name_of, sweep, take_left, take_unused};
-use pp_cache::{Cache, Create, Fetched, Left};
+use pp_cache::{Cache, Create, Fetched, Left, MOST_KEYS};
 use pp_names::Names;
 use std::alloc::{AllocError, Global};
 use std::marker::Model;
-
-/// Each key is below this number.
-const MOST_KEYS: u32 = 4_294_967_292;
 
 /// The least room that is made for keys is for this one and those that are lower in number.
 const FIRST_ROOM: u32 = 15;

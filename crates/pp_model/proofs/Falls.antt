@@ -4,7 +4,7 @@ use Rattle.std.specs.Prelude.{filter, not, unwrap_or}
 use Rattle.std.proofs.lemmas.List.{length-append}
 use Rattle.pp_settings.specs.Layout.{Geometry}
 use Rattle.pp_plan.specs.declared.action.Action.{Action}
-use Rattle.pp_plan.specs.Limits.{most_slots}
+use Rattle.pp_settings.specs.Limits.{most_slots}
 use Rattle.pp_cert.specs.Accepted.{IsAccepted}
 use Rattle.pp_cert.specs.Held.{Holding, holding_at, held}
 use Rattle.pp_model.specs.Pool.{Stage, acting, writing, reading, leaving, Running}

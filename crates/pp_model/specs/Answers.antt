@@ -1,5 +1,6 @@
 -- WriteDone and ReadDone: what the device gave for a worker's errand.
-use Rattle.std.specs.Prelude.{ℕ, ◌^◌, Bool, true, false, not, ◌||◌, ◌==◌, nat_le, Option, None, Some, []}
+use Rattle.std.specs.Prelude.{ℕ, Bool, true, false, not, ◌||◌, ◌==◌, nat_le, Option, None, Some, []}
+use Rattle.pp_settings.specs.Limits.{stamp_limit}
 use Rattle.pp_arc.specs.Figure.{forget, bring_back}
 use Rattle.pp_model.specs.declared.moves.Came.{Came}
 use Rattle.pp_model.specs.declared.moves.Came.TheVariants.{Fault, Image}
@@ -51,7 +52,7 @@ write_by s w ok (Some (Some r)) = write_in s w ok r r.stage
 
 -- Whether a stamp isn't the known mark; where none is known, a stamp of 2^62 or more isn't believed.
 abbrev pub is_other : Option ℕ → (stamp : ℕ) → Bool
-is_other None stamp = nat_le (2 ^ 62) stamp
+is_other None stamp = nat_le stamp_limit stamp
 is_other (Some mark) stamp = not (mark == stamp)
 
 -- Whether an image that names this page and this stamp isn't the page's.

@@ -1,6 +1,6 @@
 -- Sums over the plans: the peaks of those that run, and the bound on the moves that are left.
 use Rattle.std.specs.Prelude.{ℕ, ◌+◌, ◌*◌, ◌-◌, Option, None, Some, List, length, sum_by}
-use Rattle.pp_plan.specs.Limits.{most_slots}
+use Rattle.pp_settings.specs.Limits.{most_slots, step_events, plan_events}
 use Rattle.pp_cert.specs.Accepted.{Acceptance}
 use Rattle.pp_model.specs.Pool.{Stage, acting, writing, reading, leaving, Running, Flush, State, Settings, waiting}
 use Rattle.pp_model.specs.Holders.{holdings, held_slots}
@@ -20,13 +20,24 @@ running_peaks s = sum_by peak_of s.seats
 
 -- The most moves that a worker makes for this plan.
 abbrev pub cost_of : Acceptance → ℕ
-cost_of a = 3 * a.steps + 34
+cost_of a = step_events * a.steps + plan_events
+
+-- What a worker that acts may need besides its actions: an unwind for each slot, and the finish.
+abbrev pub spare_acting : ℕ
+spare_acting = 33
+
+-- While its victim is written one move of the action was made, and while its page is read another.
+abbrev pub spare_writing : ℕ
+spare_writing = 32
+
+abbrev pub spare_reading : ℕ
+spare_reading = 31
 
 -- The most moves that a worker still makes, where so many of its plan's actions are left and it holds so many slots.
 abbrev pub left_in : Stage → (actions slots : ℕ) → ℕ
-left_in acting actions slots = 3 * actions + 33
-left_in (writing slot page victim) actions slots = 3 * actions + 32
-left_in (reading slot page) actions slots = 3 * actions + 31
+left_in acting actions slots = step_events * actions + spare_acting
+left_in (writing slot page victim) actions slots = step_events * actions + spare_writing
+left_in (reading slot page) actions slots = step_events * actions + spare_reading
 left_in (leaving given) actions slots = slots + 1
 
 abbrev pub left_to : Option Running → ℕ

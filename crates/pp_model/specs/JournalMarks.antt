@@ -1,8 +1,9 @@
 -- The mark of a page as a journal tells it: the stamp of the last unlatch or unwinding of X on the page, else of the
 -- first reading of it that was good, else none. A reading is good where the image names the page that is read, and its
 -- stamp is below 2^62.
-use Rattle.std.specs.Prelude.{ℕ, ◌^◌, ◌&&◌, ◌==◌, nat_lt, if◌then◌else◌, Option, None, Some, List, [], ◌∷◌}
+use Rattle.std.specs.Prelude.{ℕ, ◌&&◌, ◌==◌, nat_lt, if◌then◌else◌, Option, None, Some, List, [], ◌∷◌}
 use Rattle.std.specs.Option.{option_or}
+use Rattle.pp_settings.specs.Limits.{stamp_limit}
 use Rattle.pp_plan.specs.declared.action.Ask.{Ask}
 use Rattle.pp_plan.specs.declared.action.Ask.TheVariants as ask
 use Rattle.pp_cert.specs.Accepted.{Acceptance}
@@ -58,7 +59,7 @@ read_for (Some (Some r)) = read_in r.stage
 -- The page that is read, where an image that names this page and this stamp is a good reading of it.
 abbrev pub read_well : Option ℕ → (named stamp : ℕ) → Option ℕ
 read_well None named stamp = None
-read_well (Some page) named stamp = if (named == page) && nat_lt stamp (2 ^ 62) then Some page else None
+read_well (Some page) named stamp = if (named == page) && nat_lt stamp stamp_limit then Some page else None
 
 -- The mark, where the event is about this page.
 abbrev pub if_about : Option ℕ → (mark page : ℕ) → Option ℕ

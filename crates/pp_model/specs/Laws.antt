@@ -1,6 +1,7 @@
 -- Laws of reached states, in the words of those who use a pool.
-use Rattle.std.specs.Prelude.{◌≡◌, ◌≢◌, ◌⊎◌, ◌↔◌, ℕ, ◌+◌, ◌*◌, ◌^◌, ◌<◌, ◌≤◌, true, false, None, Some, List, [], ◌∷◌}
+use Rattle.std.specs.Prelude.{◌≡◌, ◌≢◌, ◌⊎◌, ◌↔◌, ℕ, ◌+◌, ◌*◌, ◌<◌, ◌≤◌, true, false, None, Some, List, [], ◌∷◌}
 use Rattle.std.specs.Prelude.{◌++◌, ◌==◌, Bool, Option, length, count_by, filter, slice_get, All, IsTrue, IsSome}
+use Rattle.pp_settings.specs.Limits.{mark_limit}
 use Rattle.pp_settings.specs.Layout.{page_count}
 use Rattle.pp_plan.specs.declared.mode.Mode.{Mode}
 use Rattle.pp_plan.specs.declared.action.Action.{Action}
@@ -282,7 +283,7 @@ MarksFollow s =
 -- No mark comes near 2^64: a mark and the bound on the moves that are left come together to at most 2^63 and the most
 -- events besides submits of a life.
 abbrev pub MarksAreSmall : State → Type 0
-MarksAreSmall s = (page mark : ℕ) → known_mark s page ≡ Some mark → mark + bound s ≤ 2 ^ 63 + most_events s.settings.span
+MarksAreSmall s = (page mark : ℕ) → known_mark s page ≡ Some mark → mark + bound s ≤ mark_limit + most_events s.settings.span
 
 -- ---- the marks of all pages
 
@@ -326,13 +327,13 @@ RestKeepsDirty s =
 pub record RenewalAnswers (s : State) : Type 0 where
   -- it is done exactly where the pool is at rest and every known mark is below 2^63
   pub done : (renew_error s ≡ None)
-      ↔ ((is_at_rest s ≡ true) × ((page mark : ℕ) → known_mark s page ≡ Some mark → mark < 2 ^ 63))
+      ↔ ((is_at_rest s ≡ true) × ((page mark : ℕ) → known_mark s page ≡ Some mark → mark < mark_limit))
   -- that the pool isn't at rest comes first
   pub under_way : (renew_error s ≡ Some NotAtRest) ↔ (is_at_rest s ≡ false)
   -- the page that is named is the least one whose known mark is 2^63 or more
   pub high : (page : ℕ) → renew_error s ≡ Some (MarkTooHigh page)
-      → ((mark : ℕ) × (known_mark s page ≡ Some mark) × (2 ^ 63 ≤ mark))
-      × ((q mark : ℕ) → known_mark s q ≡ Some mark → 2 ^ 63 ≤ mark → page ≤ q)
+      → ((mark : ℕ) × (known_mark s page ≡ Some mark) × (mark_limit ≤ mark))
+      × ((q mark : ℕ) → known_mark s q ≡ Some mark → mark_limit ≤ mark → page ≤ q)
 
 -- A renewal that is done leads to the opening state, but for ARC's lists and what is noted of pages, which stay. One that
 -- is refused leaves the state.

@@ -1,8 +1,9 @@
 -- Renewing a pool that is at rest. Its plans go, and so does how each of them ended; plans are numbered from 0 again, and all
 -- flushes may begin again. What is cached, ARC's lists and target, which pages are newer than the device's, and every known
 -- mark stay.
-use Rattle.std.specs.Prelude.{◌&&◌, ◌^◌, ℕ, Bool, true, false, nat_le, Option, None, Some, option_map, is_none, [], length}
+use Rattle.std.specs.Prelude.{◌&&◌, ℕ, Bool, true, false, nat_le, Option, None, Some, option_map, is_none, [], length}
 use Rattle.std.specs.List.{list_all}
+use Rattle.pp_settings.specs.Limits.{mark_limit}
 use Rattle.pp_frames.specs.Least.{least_below}
 use Rattle.pp_frames.specs.Marks.{has_reached}
 use Rattle.pp_model.specs.declared.refusals.RenewError.{RenewError}
@@ -13,10 +14,6 @@ use Rattle.pp_model.specs.Turns.{is_idle}
 -- No plan waits, every worker is idle, and no flush is in flight.
 abbrev pub is_at_rest : State → Bool
 is_at_rest s = nat_le (length s.plans) s.taken && list_all is_idle s.seats && is_none s.flush
-
--- Known marks of a pool that is renewed are below this. So none comes near 2^64 in the life that begins.
-abbrev pub mark_limit : ℕ
-mark_limit = 2 ^ 63
 
 -- The least page whose known mark isn't below the limit.
 abbrev pub first_high_page : State → Option ℕ

@@ -1,6 +1,7 @@
 -- Submitting plans: each waits behind the others, or is refused.
-use Rattle.std.specs.Prelude.{ℕ, ◌+◌, ◌-◌, ◌^◌, Bool, true, false, nat_le, nat_lt, Option, None, Some, Result, Ok, Err}
+use Rattle.std.specs.Prelude.{ℕ, ◌+◌, ◌-◌, Bool, true, false, nat_le, nat_lt, Option, None, Some, Result, Ok, Err}
 use Rattle.std.specs.Prelude.{List, [], ◌∷◌, ◌++◌, length}
+use Rattle.pp_settings.specs.Limits.{most_plans, most_bounded_events, most_endless_events}
 use Rattle.pp_settings.specs.declared.span.Span.{Span}
 use Rattle.pp_settings.specs.declared.span.Span.TheVariants.{Bounded, Endless}
 use Rattle.pp_cert.specs.Accepted.{Acceptance}
@@ -10,10 +11,6 @@ use Rattle.pp_model.specs.declared.refusals.SubmitError.TheVariants.{OtherSettin
 use Rattle.pp_model.specs.Pool.{State}
 use Rattle.pp_model.specs.Budget.{cost_of, journal_need}
 use Rattle.pp_text.specs.Steps.{◌>>=◌}
-
--- The most plans that a bounded life takes in.
-abbrev pub most_plans : ℕ
-most_plans = 256
 
 -- How many plans count: all that were submitted in a bounded life, and those that wait in an endless one.
 abbrev pub counted_plans : Span → (submitted taken : ℕ) → ℕ
@@ -25,11 +22,10 @@ abbrev pub plan_limit : Span → ℕ
 plan_limit Bounded = most_plans
 plan_limit (Endless waiting) = waiting
 
--- The most events besides submits that a life may have. An endless one would have 2^61 after 73 years, with a thousand million
--- a second; by that bound no mark comes near 2^64, and sums of bounds fit 64 bits.
+-- The most events besides submits that a life may have.
 abbrev pub most_events : Span → ℕ
-most_events Bounded = 4000000
-most_events (Endless waiting) = 2 ^ 61
+most_events Bounded = most_bounded_events
+most_events (Endless waiting) = most_endless_events
 
 -- Whether the plan is one of this layout, whether as many plans count as may, and whether the journal would be too long.
 abbrev pub error_where : (same many long : Bool) → Option SubmitError

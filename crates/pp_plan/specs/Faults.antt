@@ -11,7 +11,8 @@ use Rattle.pp_settings.specs.Settings.{Configuration, region_named}
 use Rattle.pp_plan.specs.declared.kind.Kind.{Kind}
 use Rattle.pp_plan.specs.declared.kind.Kind.TheVariants as kind
 use Rattle.pp_plan.specs.Keys.{top_keys, keys_of, first_key, IsKindOf}
-use Rattle.pp_plan.specs.Limits.{most_statements, most_depth, most_slots, most_turns, most_branches}
+use Rattle.pp_settings.specs.Limits.{most_statements, most_depth, most_slots}
+use Rattle.pp_plan.specs.Limits.{most_turns, most_branches}
 use Rattle.pp_plan.specs.declared.error.PlanError.{PlanError}
 use Rattle.pp_plan.specs.declared.error.PlanError.TheVariants.{NotJson, NoSuchStatement, WrongField, BadName}
 use Rattle.pp_plan.specs.declared.error.PlanError.TheVariants.{NoSuchRegion, Range, TooDeep, TooMany, MixedSlot}

@@ -1,17 +1,5 @@
--- The limits of plans.
+-- The limits of plans that pp_plan alone needs. Those of statements, depth and slots are in pp_settings.
 use Rattle.std.specs.Prelude.{ℕ}
-
--- How many statements a plan may have, those inside others among them.
-abbrev pub most_statements : ℕ
-most_statements = 4096
-
--- How deep statements may stand inside each other.
-abbrev pub most_depth : ℕ
-most_depth = 16
-
--- How many slots a plan may name.
-abbrev pub most_slots : ℕ
-most_slots = 32
 
 -- How many turns a loop may have.
 abbrev pub most_turns : ℕ

@@ -1,6 +1,6 @@
 -- How far the reading of a plan is.
 use Rattle.std.specs.Prelude.{◌≡◌, ℕ, ◌≤◌, Bool, List, length}
-use Rattle.pp_plan.specs.Limits.{most_statements, most_slots}
+use Rattle.pp_settings.specs.Limits.{most_statements, most_slots}
 
 -- The slot names in the order of their first use, which of them were first used as bundles, and how many statements have
 -- begun. The table of bundles has a place for each slot that may be named.

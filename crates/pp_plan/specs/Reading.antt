@@ -20,7 +20,8 @@ use Rattle.pp_plan.specs.Names.{is_slot_name}
 use Rattle.pp_plan.specs.Progress.{Progress}
 use Rattle.pp_plan.specs.Terms.{Terms}
 use Rattle.pp_plan.specs.Keys.{top_keys}
-use Rattle.pp_plan.specs.Limits.{most_statements, most_depth, most_slots, most_turns, most_branches}
+use Rattle.pp_settings.specs.Limits.{most_statements, most_depth, most_slots}
+use Rattle.pp_plan.specs.Limits.{most_turns, most_branches}
 use Rattle.pp_plan.specs.Shapes.{Shape, fix_shape, unfix_shape, latch_shape, unlatch_shape, gather_shape}
 use Rattle.pp_plan.specs.Shapes.{scatter_shape, loop_shape, choice_shape}
 use Rattle.pp_plan.specs.Shapes.{shape_of, value_at, list_at}

@@ -1,6 +1,7 @@
 -- Which trees a plan may have.
 use Rattle.std.specs.Prelude.{◌≡◌, ◌⊎◌, ℕ, ◌<◌, ◌≤◌, ◌==◌, ◌||◌, Bool, true, false}
-use Rattle.pp_plan.specs.Limits.{most_statements, most_depth, most_turns, most_branches}
+use Rattle.pp_settings.specs.Limits.{most_statements, most_depth}
+use Rattle.pp_plan.specs.Limits.{most_turns, most_branches}
 use Rattle.pp_plan.specs.Tree.{Step, fix, unfix, latch, unlatch, gather, scatter, Statement, step, loop, choice}
 use Rattle.pp_plan.specs.Tree.{Sequence, skip, andthen}
 use Rattle.pp_plan.specs.Tree.{Alternatives, none, either, sequence_count, sequence_depth, branch_count}

@@ -3,7 +3,7 @@ use Rattle.std.specs.Prelude.{◌≡◌, ◌⊎◌, ◌<◌, ◌≤◌, ℕ, Lis
 use Rattle.std.specs.Coded.{Coded, code_by, coded×, coded_ℕ, coded_list}
 use Rattle.pp_settings.specs.declared.extent.Extent.{Extent}
 use Rattle.pp_settings.specs.Layout.{Geometry, IsLayout}
-use Rattle.pp_plan.specs.Limits.{most_slots}
+use Rattle.pp_settings.specs.Limits.{most_slots}
 use Rattle.pp_plan.specs.Tree.{Sequence}
 use Rattle.pp_plan.specs.Coding.{coded_sequence}
 use Rattle.pp_plan.specs.Names.{is_slot_name, comes_before}

@@ -19,7 +19,6 @@ mod writing;
 pub use action::{Action, Ask};
 pub use error::PlanError;
 pub use flat::{FlatStep, Next};
-pub use limits::MOST_DEPTH;
 pub use mode::Mode;
 pub use plan::Plan;
 pub use stmt::{Body, Branches, Stmt};

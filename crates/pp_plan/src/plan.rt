@@ -23,13 +23,14 @@ ghost use Rattle.pp_plan.specs.FlatList.{flat_body};
 
 use crate::error::PlanError;
 use crate::flat::{FlatStep, flat_body};
-use crate::limits::{MOST_DEPTH, MOST_SLOTS};
+use crate::limits::MOST_SLOTS;
 use crate::numbering::{in_byte_order, new_bundles, new_numbers, renumber};
 use crate::progress::{Progress, is_marked, position_of};
 use crate::reading::read_body;
 use crate::shape::statements_at;
 use crate::stmt::{Body, Stmt};
 use crate::writing::plan_value;
+use pp_settings::limits::MOST_DEPTH;
 use pp_settings::{Layout, Settings};
 use serde_json::{Category, Value};
 use std::alloc::Global;

@@ -8,8 +8,9 @@ ghost use Rattle.pp_plan.specs.Reading.{start, begun, used, slot_of};
 ghost use Rattle.pp_plan.specs.Names.{is_slot_name};
 
 use crate::error::PlanError;
-use crate::limits::{MOST_SLOTS, MOST_STATEMENTS};
+use crate::limits::MOST_SLOTS;
 use crate::names::is_slot_name;
+use pp_settings::limits::MOST_STATEMENTS;
 use std::alloc::Global;
 use std::marker::Model;
 

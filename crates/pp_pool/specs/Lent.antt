@@ -2,6 +2,7 @@
 use Rattle.std.specs.Prelude.{◌≡◌, ◌≤◌, ◌==◌, ◌%◌, ℕ, suc, Bool, true, false, List, [], ◌∷◌, length, map, Option, None, Some, if◌then◌else◌}
 use Rattle.std.specs.Prelude.{slice_index_or, slice_set, vec_capacity, position}
 use Rattle.std.specs.Global.{Vec}
+use Rattle.pp_settings.specs.Limits.{most_slots}
 use Rattle.pp_plan.specs.declared.action.Ask.{Ask}
 use Rattle.pp_plan.specs.declared.action.Ask.TheVariants as ask
 use Rattle.pp_device.specs.Image.{body_of}
@@ -34,7 +35,7 @@ writers_in (Some (guard.Bundle g) ∷ rest) = writers_in rest
 
 -- The slots of these guards, as slots are numbered: below 32.
 abbrev pub slots_of : List WriteGuard → List ℕ
-slots_of guards = map (λ g. g.slot % 32) guards
+slots_of guards = map (λ g. g.slot % most_slots) guards
 
 -- The pages of these guards.
 abbrev pub lent : List WriteGuard → List LentPage
@@ -138,14 +139,14 @@ FindPlaces places (g ∷ guards) = (is_free (with_back places guards) g.slot ≡
 -- No guard is in the room, and where it is open, it has places for those of all slots.
 pub record HasRoom (is_open : Bool) (guards : Vec WriteGuard) : Type 0 where
   pub empty : guards.items ≡ []
-  pub places : is_open ≡ true → 32 ≤ vec_capacity guards
+  pub places : is_open ≡ true → most_slots ≤ vec_capacity guards
 
 -- ---- what is lent at once
 
 -- The guards are those that they were as the work got them, but for their bodies, and there are places for those of all slots.
 pub record IsLending (began : List WriteGuard) (guards : Vec WriteGuard) : Type 0 where
   pub others : AreOthers began guards.items
-  pub places : 32 ≤ vec_capacity guards
+  pub places : most_slots ≤ vec_capacity guards
 
 -- ---- one body of those that are lent
 

@@ -3,7 +3,8 @@ use Rattle.std.specs.Prelude.{◌≡◌, ◌≤◌, ◌<◌, ◌+◌, ℕ, None,
 use Rattle.pp_cert.specs.Accepted.{Acceptance}
 use Rattle.pp_model.specs.declared.event.Event.TheVariants.{Submit}
 use Rattle.pp_model.specs.Budget.{cost_of, bound}
-use Rattle.pp_model.specs.Submitting.{most_plans, submit_error, submitted}
+use Rattle.pp_settings.specs.Limits.{most_plans}
+use Rattle.pp_model.specs.Submitting.{submit_error, submitted}
 use Rattle.pp_vault.specs.Submits as vault
 use Rattle.pp_pool.specs.declared.error.BookError.{BookError}
 use Rattle.pp_pool.specs.declared.error.BookError.TheVariants.{OutOfMemory, Refused}

@@ -1,6 +1,7 @@
 //! What a worker asks next.
 
 ghost use Rattle.std.specs.Prelude.{◌≡◌, ◌<◌, ℕ, List, Option, true, false, None, Some, IfOk, IfErr, IfSome, IfNone, OnErr, nat_lt, slice_set};
+ghost use Rattle.pp_settings.specs.Limits.{most_slots};
 ghost use Rattle.pp_plan.specs.declared.action.Ask.TheVariants as plan_ask;
 ghost use Rattle.pp_pool.specs.declared.request.Request.TheVariants as request;
 ghost use Rattle.pp_vault.specs.Duties.{duty_slot};
@@ -13,6 +14,7 @@ ghost use Rattle.pp_pool.specs.Replies.{slot_for};
 ghost use Rattle.pp_pool.specs.Turns.{guard_asked, places_without, suits, is_suited, can_step, can_ask_at};
 ghost use Rattle.pp_pool.specs.Turns.{has_place as page_may_come};
 
+use crate::held::SLOTS;
 use crate::request::Request;
 use crate::work::{Kind, Work};
 use pp_device::Device;
@@ -306,9 +308,9 @@ fn take_first(guards: &mut Guards) -> Option<Guard>
     ensures own { IfSome result (λ guard. placed guards.old (slot_by guard) ≡ Some guard) }
     ensures free { IfSome result (λ guard. is_free guards.new (slot_by guard) ≡ true) }
     ensures least { IfSome result (λ guard. (slot : ℕ) → slot < slot_by guard → placed guards.old slot ≡ None) }
-    ensures none { IfNone result ((slot : ℕ) → slot < 32 → placed guards.old slot ≡ None) }
+    ensures none { IfNone result ((slot : ℕ) → slot < most_slots → placed guards.old slot ≡ None) }
 {
-    for slot in 0..32 {
+    for slot in 0..SLOTS {
         if let Some(guard) = guards.take(slot) {
             return Some(guard);
         }

@@ -3,6 +3,7 @@
 ghost use Rattle.std.specs.Prelude.{◌≡◌, ◌≤◌, ◌<◌, ◌+◌, ◌↔◌, ◌++◌, true, false, [], None, Some, IsSome, is_ok, IfOk, IfErr};
 ghost use Rattle.std.specs.Prelude.{OnOk, OnErr, IfSome, length, option_map};
 ghost use Rattle.std.specs.Option.{is_some};
+ghost use Rattle.pp_settings.specs.Limits.{most_bounded_events};
 ghost use Rattle.pp_settings.specs.declared.span.Span.TheVariants.{Bounded};
 ghost use Rattle.pp_model.specs.declared.event.Event.TheVariants.{Step};
 ghost use Rattle.pp_model.specs.Pool.{dirty_pages};
@@ -170,7 +171,7 @@ impl Book {
 
     /// Gets room in the journal for the line and the events of a plan that costs so much, and tells whether there is.
     fn make_room(&mut self, cost: u64) -> bool
-        requires { cost ≤ 4000000 }
+        requires { cost ≤ most_bounded_events }
         ensures room { result ≡ true → HasRoom self.new cost }
         ensures no_room { result ≡ false → LacksRoom self.old cost }
         ensures same { self.new ≡ record self.old { capacity = self.new.capacity } }

@@ -3,6 +3,7 @@
 ghost use Rattle.std.specs.Prelude.{◌≡◌, ◌<◌, ◌↔◌, List, IsTrue, true, false, [], length, None, Some, OnOk, OnErr, IfSome, IfNone, slice_set, vec_capacity};
 ghost use Rattle.std.specs.Borrow.{sem};
 ghost use Rattle.std.specs.Option.{is_some};
+ghost use Rattle.pp_settings.specs.Limits.{most_slots};
 ghost use Rattle.pp_device.specs.Image.{body_of};
 ghost use Rattle.pp_vault.specs.declared.guards.WriteGuard.{WriteGuard};
 ghost use Rattle.pp_vault.specs.Holding.{placed};
@@ -10,12 +11,13 @@ ghost use Rattle.pp_vault.specs.declared.guards.Guard.TheVariants as guard_kinds
 ghost use Rattle.pp_pool.specs.Lent.{AreReworked, is_writer, off_on_way_out, with_back, FindPlaces};
 
 use crate::both::{change_falling, change_rising};
+use pp_settings::limits::MOST_SLOTS;
 use pp_vault::{Guard, Guards, Held as Holds, WriteGuard};
 use std::alloc::{AllocError, Global};
 use std::marker::{Brand, Model, PhantomData};
 
-/// How many slots a plan has at most.
-pub(crate) const SLOTS: u32 = 32;
+/// How many slots a plan has at most, as guards number them.
+pub(crate) const SLOTS: u32 = MOST_SLOTS as u32;
 
 /// Room for the guards of all pages that a worker can have latched X, where its work is lent them. No guard is in it while no work
 /// has them. Contracts see whether there is room.
@@ -262,7 +264,7 @@ fn take_writer(guards: &mut Guards, slot: u32) -> Option<WriteGuard>
     ensures slot { IfSome result (λ guard. guard.slot ≡ slot) }
     ensures taken { IfSome result (λ _. guards.new ≡ slice_set guards.old slot None) }
     ensures none { IfNone result (guards.new ≡ guards.old) }
-    ensures long { length guards.old ≡ 32 }
+    ensures long { length guards.old ≡ most_slots }
 {
     if !is_exclusive(guards, slot) {
         return None;
@@ -291,7 +293,7 @@ fn put_back(out: &mut Vec<WriteGuard>, guards: &mut Guards)
 /// Whether the page of the slot is latched X.
 pub(crate) fn is_exclusive(guards: &Guards, slot: u32) -> bool
     ensures writer { result ≡ is_writer (placed guards.now slot) }
-    ensures long { length guards.now ≡ 32 }
+    ensures long { length guards.now ≡ most_slots }
 {
     matches!(guards.held(slot), Some((_, Holds::X)))
 }

@@ -13,10 +13,11 @@ use crate::request::Request;
 use crate::response::Response;
 use pp_device::image;
 use pp_device::image::HEAD;
+use pp_settings::limits::FEWEST_PAGE_BYTES;
 use pp_vault::{ReadGuard, Session};
 
-/// How many bytes of an image a work is shown at least.
-pub(crate) const SHORTEST: usize = 64;
+/// How many bytes of an image a work is shown at least: as many as every page has.
+pub(crate) const SHORTEST: usize = FEWEST_PAGE_BYTES as usize;
 
 /// Performs requests on a book: its own, or one that it shares with others.
 ///

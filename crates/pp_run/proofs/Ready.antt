@@ -11,7 +11,8 @@ use Rattle.pp_frames.specs.Least.{least_below, or_next}
 use Rattle.pp_frames.specs.Marks.{has_reached}
 use Rattle.pp_model.specs.Pool.{State, Settings, Note, untouched, opening, known_mark}
 use Rattle.pp_model.specs.Budget.{bound, left_to}
-use Rattle.pp_model.specs.Renewing.{renew_error, renew_error_where, first_high_page, mark_limit}
+use Rattle.pp_settings.specs.Limits.{mark_limit}
+use Rattle.pp_model.specs.Renewing.{renew_error, renew_error_where, first_high_page}
 use Rattle.pp_model.specs.Turns.{is_idle}
 use Rattle.pp_model.specs.Submitting.{after_submits}
 use Rattle.pp_outset.specs.Outsets.{Outset, opens_with}

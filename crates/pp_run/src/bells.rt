@@ -3,6 +3,7 @@
 use crate::desk::Desk;
 use crate::locked::Locked;
 use crate::owed::Told;
+use pp_settings::limits::BELLS;
 use pp_wants::bell_of;
 use std::alloc::{AllocError, Global};
 use std::sync::{Condvar, MutexGuard, Wait};
@@ -28,8 +29,8 @@ impl Bells {
     /// Only where the memory can't be had.
     pub fn new(alloc: Global) -> Result<Bells, AllocError> {
         let mut workers = Vec::new(alloc);
-        workers.reserve(pp_wants::BELLS as usize)?;
-        for _ in 0..pp_wants::BELLS {
+        workers.reserve(BELLS as usize)?;
+        for _ in 0..BELLS {
             workers.push(Condvar::new())?;
         }
         Ok(Bells {
@@ -58,7 +59,7 @@ impl Bells {
     /// The same, where somebody was told.
     #[inline(never)]
     fn ring_each(&self, workers: u32, moved: bool, changed: bool) {
-        for bell in 0..pp_wants::BELLS {
+        for bell in 0..BELLS {
             if (workers >> bell) & 1 == 1 {
                 self.ring_at(bell);
             }

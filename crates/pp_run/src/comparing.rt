@@ -9,7 +9,8 @@ use crate::stop::Worked;
 use pp_pool::Journal;
 use pp_report::names_worker;
 
-/// How many logs are compared in one pass: as many as a pool may have workers.
+/// How many logs are compared in one pass: as many as a pool of version 1 has workers. Each has a count in an array; the logs of more
+/// workers are gone over one by one.
 const TOGETHER: usize = 32;
 
 /// How many events of each of the first logs are those of its worker's part; `None` of a log that isn't that part.
@@ -55,8 +56,7 @@ fn after(count: Option<usize>, log: &Journal, events: &Journal, place: usize) ->
     }
 }
 
-/// Whether the log is the worker's part of these events. No settings have more workers than are compared together; the log
-/// of a later one is compared alone.
+/// Whether the log is the worker's part of these events. That of a worker beyond those that are compared together is compared alone.
 pub(crate) fn is_part(counts: &Agreement, log: &Journal, events: &Journal, worker: u32) -> bool
     requires { (c : _) → worker < length counts.now
         → Agrees (slice_index_or counts.now worker c) log.now.items worker events.now.items (length events.now.items) }

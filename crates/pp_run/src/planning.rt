@@ -1,6 +1,7 @@
 //! Plans that are looked at, and submitted, before the threads of a run begin.
 
 ghost use Rattle.std.specs.Prelude.{◌≡◌, ◌≤◌, ◌+◌, ◌^◌, [], IfOk, IfErr, OnOk, IsOk, nat_le, nat_lt, length, sum_by};
+ghost use Rattle.pp_settings.specs.Limits.{most_plans, most_bounded_events};
 ghost use Rattle.pp_cert.specs.Walk.{same_layout};
 ghost use Rattle.pp_model.specs.Budget.{cost_of};
 ghost use Rattle.pp_model.specs.Submitting.{after_submits, error_where};
@@ -12,12 +13,7 @@ use pp_cert::Accepted;
 use pp_model::SubmitError;
 use pp_pool::Book;
 use pp_settings::Layout;
-
-/// The most plans that one life of a pool takes.
-const MOST_PLANS: usize = 256;
-
-/// The most events besides submits that the journal of one life may have to hold.
-const MOST_EVENTS: u64 = 4_000_000;
+use pp_settings::limits::{MOST_BOUNDED_EVENTS, MOST_PLANS};
 
 /// How many events besides submits the journal of a pool with this layout needs, where these plans are submitted behind `count`
 /// others that need so many. Nothing is submitted.
@@ -31,11 +27,11 @@ pub(crate) fn need_of(
     need: u64,
     plans: &[Accepted],
 ) -> Result<u64, SubmitError>
-    requires few { count ≤ 256 }
+    requires few { count ≤ most_plans }
     requires low { need ≤ 2 ^ 33 }
     ensures taken { IfOk result (AreTakenIn layout.now count need plans.now) }
     ensures low { IfOk result (λ all. all ≤ 2 ^ 33) }
-    ensures few { OnOk result (count + length plans.now ≤ 256) }
+    ensures few { OnOk result (count + length plans.now ≤ most_plans) }
     ensures refused { IfErr result (AreRefused layout.now count need plans.now) }
 {
     match plans.split_first() {
@@ -54,11 +50,11 @@ pub(crate) fn need_of_queries<W>(
     need: u64,
     plans: &[(Accepted, W)],
 ) -> Result<u64, SubmitError>
-    requires few { count ≤ 256 }
+    requires few { count ≤ most_plans }
     requires low { need ≤ 2 ^ 33 }
     ensures taken { IfOk result (AreTakenIn layout.now count need (plans_in plans.now)) }
     ensures low { IfOk result (λ all. all ≤ 2 ^ 33) }
-    ensures few { OnOk result (count + length plans.now ≤ 256) }
+    ensures few { OnOk result (count + length plans.now ≤ most_plans) }
     ensures refused { IfErr result (AreRefused layout.now count need (plans_in plans.now)) }
 {
     match plans.split_first() {
@@ -73,8 +69,8 @@ pub(crate) fn need_of_queries<W>(
 /// Why this plan isn't taken in behind `count` others that need so many events; None where it is.
 fn fault(layout: &Layout, count: usize, need: u64, plan: &Accepted) -> Option<SubmitError>
     requires { need ≤ 2 ^ 33 }
-    ensures { result ≡ error_where (same_layout layout.now plan.now.plan.layout) (nat_le 256 count)
-        (nat_lt 4000000 (need + cost_of plan.now)) }
+    ensures { result ≡ error_where (same_layout layout.now plan.now.plan.layout) (nat_le most_plans count)
+        (nat_lt most_bounded_events (need + cost_of plan.now)) }
 {
     let _facts = plan.plan();
     if !is_same_layout(layout, &plan.layout()) {
@@ -83,7 +79,7 @@ fn fault(layout: &Layout, count: usize, need: u64, plan: &Accepted) -> Option<Su
     if count >= MOST_PLANS {
         return Some(SubmitError::TooManyPlans);
     }
-    if need + plan.cost() > MOST_EVENTS {
+    if need + plan.cost() > MOST_BOUNDED_EVENTS {
         return Some(SubmitError::JournalLimit);
     }
     None

@@ -1,6 +1,7 @@
 //! The work of a run whose choices are given.
 
 ghost use Rattle.std.specs.Prelude.{◌≡◌, ◌+◌, ◌<◌, ◌≤◌, is_some};
+ghost use Rattle.pp_settings.specs.Limits.{page_numbers};
 ghost use Rattle.pp_run_command.specs.Choices.{after_traced, new_rounds, next_number, raised, traced};
 
 use crate::rounds::{Rounds, raise_first};
@@ -77,7 +78,7 @@ impl<'a> Traced<'a> {
     /// The next choice among `count` numbers from `first` on.
     fn choose(&mut self, first: u32, count: u32) -> u32
         requires some { 1 ≤ count }
-        requires ends { first + count ≤ 4294967292 }
+        requires ends { first + count ≤ page_numbers }
         ensures number { result ≡ traced self.old first count }
         ensures from { first ≤ result }
         ensures below { result < first + count }

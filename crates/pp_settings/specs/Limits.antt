@@ -1,4 +1,4 @@
--- The limits of settings: of all, and then those that a text of one version alone has.
+-- The limits that more than one crate needs: of settings, plans and lives. src/limits.rt says why each is so.
 use Rattle.std.specs.Prelude.{ℕ, ◌-◌, ◌^◌}
 
 -- How many frames a pool may have.
@@ -66,3 +66,60 @@ first_page_numbers = 65536
 -- How few bytes a page may have in a text of version 2.
 abbrev pub second_page_bytes : ℕ
 second_page_bytes = 512
+
+-- ---- of plans
+
+-- How many statements a plan may have, those inside others among them.
+abbrev pub most_statements : ℕ
+most_statements = 4096
+
+-- How deep statements may stand inside each other.
+abbrev pub most_depth : ℕ
+most_depth = 16
+
+-- How many slots a plan may name.
+abbrev pub most_slots : ℕ
+most_slots = 32
+
+-- The most events that a journal has for one step of a plan: a fix, the end of its victim's writing, and that of its reading.
+abbrev pub step_events : ℕ
+step_events = 3
+
+-- The most events that a journal has for a plan besides: the take, an unwind for each slot, and the finish.
+abbrev pub plan_events : ℕ
+plan_events = 34
+
+-- ---- of lives
+
+-- The most plans that a bounded life takes in.
+abbrev pub most_plans : ℕ
+most_plans = 256
+
+-- The most plans that are prepared in an endless life.
+abbrev pub most_prepared : ℕ
+most_prepared = 4096
+
+-- The most events besides submits of a bounded life.
+abbrev pub most_bounded_events : ℕ
+most_bounded_events = 4000000
+
+-- The most events besides submits of an endless life. It would have them after 73 years, with a thousand million a second; by that
+-- bound no mark comes near 2^64, and sums of bounds fit 64 bits.
+abbrev pub most_endless_events : ℕ
+most_endless_events = 2 ^ 61
+
+-- ---- of marks
+
+-- Where no mark of a page is known, a stamp from this on isn't believed.
+abbrev pub stamp_limit : ℕ
+stamp_limit = 2 ^ 62
+
+-- Known marks of a pool that is renewed are below this. So none comes near 2^64 in the life that begins.
+abbrev pub mark_limit : ℕ
+mark_limit = 2 ^ 63
+
+-- ---- of threads
+
+-- How many bells there are for workers to sleep on.
+abbrev pub bell_count : ℕ
+bell_count = 32

@@ -1,6 +1,7 @@
 //! Where regions lie, as a plain value.
 
 ghost use Rattle.std.specs.Prelude.{◌≡◌, ◌≤◌, ◌<◌, ◌-◌, ℕ, length, Some, IfSome, slice_get};
+ghost use Rattle.pp_settings.specs.Limits.{most_frames};
 ghost use Rattle.pp_settings.specs.Layout.{region_of, class_of, page_count, HasPage, TellsClass, IsLayout};
 
 use crate::extent::Extent;
@@ -33,7 +34,7 @@ impl Layout {
     /// How many frames the pool has.
     pub fn frames(&self) -> u32
         ensures is { result ≡ self.now.frames }
-        ensures within { (1 ≤ result) × (result ≤ 16777216) }
+        ensures within { (1 ≤ result) × (result ≤ most_frames) }
     {
         self.frames
     }

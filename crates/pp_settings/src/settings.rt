@@ -1,6 +1,7 @@
 //! Settings, and what they say.
 
 ghost use Rattle.std.specs.Prelude.{◌≡◌, ◌≢◌, ◌-◌, ◌≤◌, ◌<◌, ℕ, Ok, Some, IfOk, IfErr, IfSome, is_ok, length};
+ghost use Rattle.pp_settings.specs.Limits.{most_frames, fewest_page_bytes, most_page_bytes, most_workers};
 ghost use Rattle.toml.specs.Parse.{parse_document};
 ghost use Rattle.pp_text.specs.Steps.{Gives};
 ghost use Rattle.pp_text.specs.First.{IsFirst};
@@ -116,7 +117,7 @@ impl Settings {
     /// How many frames the pool has.
     pub fn frames(&self) -> u32
         ensures is { result ≡ self.now.frames }
-        ensures within { (1 ≤ result) × (result ≤ 16777216) }
+        ensures within { (1 ≤ result) × (result ≤ most_frames) }
     {
         self.layout.frames()
     }
@@ -124,7 +125,7 @@ impl Settings {
     /// How many bytes a page has.
     pub fn page_bytes(&self) -> u32
         ensures is { result ≡ self.now.page_bytes }
-        ensures within { (64 ≤ result) × (result ≤ 1048576) }
+        ensures within { (fewest_page_bytes ≤ result) × (result ≤ most_page_bytes) }
     {
         self.page_bytes
     }
@@ -132,7 +133,7 @@ impl Settings {
     /// How many workers run plans.
     pub fn workers(&self) -> u32
         ensures is { result ≡ self.now.workers }
-        ensures within { (1 ≤ result) × (result ≤ 1024) }
+        ensures within { (1 ≤ result) × (result ≤ most_workers) }
     {
         self.workers
     }

@@ -1,6 +1,7 @@
 //! How long a life of a pool may last.
 
 ghost use Rattle.std.specs.Prelude.{◌≡◌, ◌≤◌};
+ghost use Rattle.pp_settings.specs.Limits.{most_endless_flushes};
 ghost use Rattle.pp_settings.specs.Spans.{span_of, flush_limit};
 
 use crate::limits::{MOST_ENDLESS_FLUSHES, MOST_FLUSHES};
@@ -30,7 +31,7 @@ impl Span {
     /// The most flushes that one life may begin: 100,000 in a bounded life, and 2^59 in an endless one.
     pub fn most_flushes(self) -> u64
         ensures is { result ≡ flush_limit self }
-        ensures within { result ≤ 576460752303423488 }
+        ensures within { result ≤ most_endless_flushes }
     {
         match self {
             Span::Bounded => MOST_FLUSHES,

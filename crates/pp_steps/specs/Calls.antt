@@ -2,7 +2,7 @@
 use Rattle.std.specs.Prelude.{◌≡◌, ◌⊎◌, ℕ, ◌+◌, ◌-◌, ◌==◌, ◌&&◌, ◌||◌, ◌*◌, ◌^◌, ◌↔◌, ◌≤◌, min, not, Bool, true, false, Option, None, Some, Ok, Err, Result}
 use Rattle.std.specs.Prelude.{IfOk, IsOk, IsSome, is_some, List, ◌++◌, ◌∷◌, [], length, slice_get, if◌then◌else◌}
 use Rattle.pp_cert.specs.Accepted.{Acceptance}
-use Rattle.pp_cert.specs.Limits.{step_events, plan_events}
+use Rattle.pp_settings.specs.Limits.{step_events, plan_events}
 use Rattle.pp_core.specs.Submits.{PrepareFails}
 use Rattle.pp_model.specs.Pool.{State}
 use Rattle.pp_vault.specs.StandsFor.{StandsFor}

@@ -1,5 +1,6 @@
 -- Which hands fit a vault.
 use Rattle.std.specs.Prelude.{◌≡◌, ◌<◌, ℕ, true, Option, None, Some, List, length}
+use Rattle.pp_settings.specs.Limits.{most_slots}
 use Rattle.pp_cert.specs.declared.note.Held.TheVariants.{Free, S, X}
 use Rattle.pp_model.specs.Pool.{State, known_mark}
 use Rattle.pp_core.specs.Queries.{is_idle, is_leaving, ask_of, held_of, flushed_page}
@@ -92,7 +93,7 @@ PlaceFits page_bytes s w slot (Some guard) = GuardFits page_bytes s w slot guard
 -- The hand has the token of worker w's stage, and the guard of each slot that the worker holds, and no other.
 pub record HandFits (page_bytes : ℕ) (s : State) (w : ℕ) (hand : Hand) : Type 0 where
   pub stage : StageFits page_bytes s w hand.stage
-  pub places : length hand.guards ≡ 32
+  pub places : length hand.guards ≡ most_slots
   pub guards : (slot : ℕ) → PlaceFits page_bytes s w slot (placed hand.guards slot)
 
 -- There is a hand in worker w's place, and it fits.

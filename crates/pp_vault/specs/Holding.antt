@@ -2,6 +2,7 @@
 use Rattle.std.specs.Prelude.{◌≡◌, ℕ, Bool, true, false, ◌&&◌, Option, None, Some, is_none, IfSome, List, length, replicate}
 use Rattle.std.specs.Prelude.{slice_index_or, ltb}
 use Rattle.std.specs.List.{list_all}
+use Rattle.pp_settings.specs.Limits.{most_slots}
 use Rattle.pp_cert.specs.declared.note.Held.{Held}
 use Rattle.pp_cert.specs.declared.note.Held.TheVariants.{Free, S, X}
 use Rattle.pp_vault.specs.declared.guards.Guard.{Guard}
@@ -51,9 +52,9 @@ all_free places = list_all is_none places
 
 -- The places of the guards of a worker that holds no slot.
 abbrev pub no_guards : List (Option Guard)
-no_guards = replicate 32 None
+no_guards = replicate most_slots None
 
 -- There are 32 places, and in each, if anything, a guard of its slot.
 pub record GuardPlaces (places : List (Option Guard)) : Type 0 where
-  pub long : length places ≡ 32
+  pub long : length places ≡ most_slots
   pub each : (slot : ℕ) → IfSome (placed places slot) (λ guard. slot_by guard ≡ slot)

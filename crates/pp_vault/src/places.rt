@@ -2,16 +2,18 @@
 
 ghost use Rattle.std.specs.Prelude.{◌≡◌, true, false, None, Some, OnOk, IfErr, IfOk};
 ghost use Rattle.std.specs.Prelude.{OnErr, IfSome, IfNone, slice_set, option_and_then, length};
+ghost use Rattle.pp_settings.specs.Limits.{most_slots};
 ghost use Rattle.pp_vault.specs.Holding.{slot_by, held_by, has_bundle, placed, is_free, all_free, no_guards};
 
 use crate::guards::Guard;
 use crate::stored::StoredGuard;
 use pp_core::Held;
+use pp_settings::limits::MOST_SLOTS;
 use std::alloc::{AllocError, Global};
 use std::marker::Model;
 
-/// How many slots a plan has at most.
-pub(crate) const SLOTS: usize = 32;
+/// How many slots a plan has at most, as the length of an array.
+pub(crate) const SLOTS: usize = MOST_SLOTS as usize;
 
 /// The guards of one worker, each in the place of its slot. Contracts see them as a list of 32: at place s the guard of
 /// slot s, if it is there. The places lie apart, since a worker's tokens are handed on by value.
@@ -89,7 +91,7 @@ impl Guards {
     /// The page that the guard of a slot is of, and how it is held. None also where the guard is a bundle's.
     pub fn held(&self, slot: u32) -> Option<(u32, Held)>
         ensures held { result ≡ option_and_then held_by (placed self.now slot) }
-        ensures long { length self.now ≡ 32 }
+        ensures long { length self.now ≡ most_slots }
     {
         let places = &*self.places;
         match places.get(slot as usize) {
@@ -123,7 +125,7 @@ impl Guards {
     /// Whether no guard is there.
     pub fn is_empty(&self) -> bool
         ensures free { result ≡ all_free self.now }
-        ensures long { length self.now ≡ 32 }
+        ensures long { length self.now ≡ most_slots }
     {
         let places = &*self.places;
         places.iter().all(|place| place.is_none())

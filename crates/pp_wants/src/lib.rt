@@ -9,7 +9,7 @@
 #![tactic(auto)]
 
 pub use lock::hold;
-pub use mask::{BELLS, bell_of};
+pub use mask::bell_of;
 pub use sleepers::{Sleeper, Sleepers};
 pub use wakes::Wakes;
 pub use want::Want;
