@@ -8,7 +8,8 @@ use crate::stacks::Stacks;
 use std::alloc::{AllocError, Global};
 use std::marker::Model;
 
-/// The stack of the records that are free. The stack of a place is the one behind it.
+/// The stack of the records that are free: the first, so that it has one number however many places there are. The stack of
+/// a place is one behind its number.
 const FREE: usize = 0;
 
 /// The pages of bundles: at each place a stack of pages, the one that was put there last on top.

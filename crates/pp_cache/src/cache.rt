@@ -18,8 +18,8 @@ use pp_arc::{Answer, Busy, Directory, Links, List, Search};
 use std::alloc::{AllocError, Global};
 use std::marker::Model;
 
-/// Each key is below this number. pp_arc numbers its records by 32 bits, and keeps four besides one for each key. Page numbers of a
-/// pool have the same limit, in the settings, which a page cache doesn't know.
+/// Each key is below this number. pp_arc numbers its records by 32 bits, and keeps four besides one for each key. Page
+/// numbers of a pool have the same limit, in the settings, which a page cache doesn't know.
 pub const MOST_KEYS: u32 = 4_294_967_292;
 
 /// The pages that are pinned: they may not leave.

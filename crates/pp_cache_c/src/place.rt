@@ -6,7 +6,7 @@ ghost use Rattle.pp_cache_c.specs.Calls.{place_of};
 
 use pp_cache::Left;
 
-/// The key that stands for none. No page has it.
+/// The key that stands for none: the greatest number of 32 bits. No page has it, since keys are below `MOST_KEYS`.
 pub const NO_KEY: u32 = 4_294_967_295;
 
 /// The frame in which a fetch pinned a page, and who left for it.

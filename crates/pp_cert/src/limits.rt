@@ -8,18 +8,19 @@ ghost use Rattle.pp_cert.specs.Limits.{usual_bound, most_bound, most_counted};
 use pp_settings::limits::MOST_SLOTS;
 use pp_settings::{Layout, Settings};
 
-/// The most notes of a certificate: by the format (docs/formats.md). No plan has so many places: one before each of 4,096 statements,
-/// one at the end of each of their 16 branches, and one at its own end.
+/// The most notes of a certificate: by the format (docs/formats.md). No plan has so many places: one before each of 4,096
+/// statements, one at the end of each of their 16 branches, and one at its own end.
 pub const MOST_NOTES: usize = 70_000;
 
 /// The most entries of a note: one for each slot.
 pub const MOST_ENTRIES: usize = MOST_SLOTS as usize;
 
-/// The greatest bound of a bundle in a pool with few frames: as many as a pool of version 1 has, so that texts are read under fewer
-/// frames as they always were.
+/// The greatest bound of a bundle in a pool with few frames: as many as a pool of version 1 has, so that texts are read
+/// under fewer frames as they always were.
 const USUAL_BOUND: u32 = 4_096;
 
-/// The most steps that a certificate may claim: by the format. So a plan costs at most 3,000,034, and a bounded life has room for it.
+/// The most steps that a certificate may claim: by the format. So a plan costs at most 3,000,034, and a bounded life has
+/// room for it.
 pub const MOST_STEPS: u64 = 1_000_000;
 
 /// Where counting actions stops: one more than the steps that are allowed.

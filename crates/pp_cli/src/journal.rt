@@ -19,7 +19,8 @@ use std::io::{ErrorKind, Read, Seek, SeekFrom};
 use std::rt::Files;
 use std::{fs, io};
 
-/// How many bytes of a file are looked at before it is written over. No line of a journal is as long.
+/// How many bytes of a file are looked at before it is written over. No line of a journal is as long, so a first line is
+/// seen whole.
 const FRONT: u64 = 128;
 
 /// The opened file of a journal that is written when the run is over.

@@ -17,8 +17,8 @@ use crate::table::Table;
 use pp_model::{Came, Cause, Failure, Move, Reply};
 use pp_settings::limits::{STAMP_LIMIT, STEP_EVENTS};
 
-/// What the bound has for a worker whose victim is written, besides three moves for each action that is left: `spare_writing` of
-/// pp_model's Budget.antt.
+/// What the bound has for a worker whose victim is written, besides three moves for each action that is left:
+/// `spare_writing` of pp_model's Budget.antt.
 const SPARE_WRITING: u64 = 32;
 
 /// What it has for a worker whose page is read: `spare_reading`.

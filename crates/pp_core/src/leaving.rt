@@ -88,7 +88,8 @@ impl Table {
         }
     }
 
-    /// The moves that the bound counts for a worker that acts: three for each action that is left, and what it may need besides.
+    /// The moves that the bound counts for a worker that acts: three for each action that is left, and what it may need
+    /// besides.
     fn left_of_plan(&self, worker: u32) -> u64
         requires { CanCount (parts_of self.now) worker }
         ensures { (x : Seat) (a : Acceptance) → Runs (parts_of self.now) worker x a → result ≡ left_of x a }

@@ -3,7 +3,7 @@
 ghost use Rattle.std.specs.Prelude.{◌≡◌, ◌≤◌, length};
 ghost use Rattle.pp_device.specs.Image.{with_head, head_of};
 
-/// How many bytes of an image the head takes. The body follows it.
+/// How many bytes of an image the head takes: 4 for the page's number, and 8 for its stamp. The body follows it.
 pub const HEAD: usize = 12;
 
 /// Writes the number of the page and its stamp to the front of the image, and leaves the body as it is.

@@ -7,13 +7,13 @@ use pp_report::{Told, first_line, line_in};
 use pp_settings::Settings;
 use std::alloc::{AllocError, Global};
 
-/// The most columns that a picture has.
+/// The most columns that a picture has: four to a pixel at its full width, and more can't be seen.
 const MOST_COLUMNS: u64 = 4_000;
 
 /// The most parts of rows that a picture has, so that it has 4 MB at most. A part takes some 110 bytes with its title.
 const MOST_PARTS: u64 = 36_000;
 
-/// The most frames that have a row.
+/// The most frames that have a row. Each row is 12 pixels high, so all of them take about a page of a screen.
 const MOST_FRAMES: u32 = 64;
 
 /// How a journal is cut into columns, and which frames have a row.

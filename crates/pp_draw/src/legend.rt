@@ -34,7 +34,8 @@ const WIDE: [&str; 3] = [
     "those behind a column's last line.",
 ];
 
-/// The most letters of a region's name in the letters of the others.
+/// The most letters of a region's name in the letters of the others. A longer one has small letters, so that it doesn't
+/// reach into the next.
 const LONG: usize = 18;
 
 /// How many words the legend has.

@@ -4,39 +4,49 @@ ghost use Rattle.std.specs.Prelude.{◌≤◌};
 
 use crate::scene::Scene;
 
-/// The width of a picture, of the margin for names at its left, and of the part for lines.
+/// The width of a picture: 1,200 pixels, which a viewer scales to its page. Letters are measured by it.
 pub(crate) const WIDTH: u64 = 12_000;
 
+/// The margin for names at its left: room for a word and a number. `.ci/pictures` counts on it.
 pub(crate) const LEFT: u64 = 1_500;
 
+/// The width of the part for lines: what the margin leaves, but for 20 empty pixels at the right. `.ci/pictures` counts on
+/// it too.
 pub(crate) const PLOT: u64 = 10_300;
 
-/// The heights of a worker's lane, of the bars of its plans, of the flusher's lane, of ARC's lists, of the dirty pages and of a
-/// line of text. Letters are 16 pixels high at full width, and so 11 where the picture is 830 pixels wide.
+/// The height of a worker's lane: a bar, a row for errands and two for latches, and spaces between them.
 pub(crate) const LANE: u64 = 430;
 
+/// The height of the bars of its plans: a line of letters, which are 16 pixels high at full width, and so 11 where the
+/// picture is 830 pixels wide.
 pub(crate) const BAR: u64 = 190;
 
+/// The height of the flusher's lane: a row a little lower than a bar, and its space.
 pub(crate) const FLUSHER: u64 = 200;
 
+/// The height of the curves of ARC's lists: four that lie on each other, and the target.
 pub(crate) const LISTS: u64 = 1_000;
 
+/// The height of the curve of the dirty pages, which is one.
 pub(crate) const DIRTY: u64 = 600;
 
+/// The height of a line of text: letters, and nearly as much space.
 pub(crate) const TEXT: u64 = 300;
 
-/// How wide a letter is, about, and a small one, as low rows have them.
+/// How wide a letter is, about, at the letters' height of 160. By it a word is left out that has no room.
 pub(crate) const LETTER: u64 = 90;
 
+/// How wide a small one is, about, as low rows have them: of 110.
 pub(crate) const LOW_LETTER: u64 = 64;
 
-/// The least height of a row with words in it.
+/// The least height of a row with words in usual letters in it; lower ones have small letters.
 pub(crate) const WRITTEN: u64 = 180;
 
-/// The space between two parts of the picture.
+/// The space between two parts of the picture: more than between two rows of one part.
 const GAP: u64 = 220;
 
-/// How many figures, and how many words of the legend, stand on a line.
+/// How many figures, and how many words of the legend, stand on a line: a fifth of the width has room for a sign and a
+/// region's name.
 pub(crate) const A_LINE: usize = 5;
 
 /// Where the parts of a picture begin, from its top.

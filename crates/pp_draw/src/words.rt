@@ -46,7 +46,8 @@ fn is_hidden(letter: char) -> bool {
     )
 }
 
-/// The most letters of a plan's name that are shown.
+/// The most letters of a plan's name that are shown. Of a longer one the rest is left out, so that more bars have room for
+/// their names.
 const NAME: usize = 40;
 
 /// What a plan is called: the name of its file, without the folders; and its number where no file is known.

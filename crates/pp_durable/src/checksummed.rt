@@ -11,7 +11,7 @@ use pp_device::{Count, Device, Fault};
 use std::alloc::{AllocError, Global};
 use std::marker::Model;
 
-/// How many bytes the sum takes.
+/// How many bytes the sum takes: CRC-32C has 32 bits.
 pub const SUM: usize = 4;
 
 /// A device that keeps with each page the check sum of its bytes.

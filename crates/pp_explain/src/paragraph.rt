@@ -7,7 +7,8 @@ use pp_locate::{Said, Spot};
 use pp_shown::{ShownLines, ShownPath};
 use std::alloc::{AllocError, Global};
 
-/// How many line feeds a paragraph has at most before its last one.
+/// How many line feeds a paragraph has at most before its last one: so one is five lines long at most, whatever bytes a path
+/// or a text brings.
 const FEEDS: usize = 4;
 
 /// The paragraph of what is said of the file at this path.

@@ -14,7 +14,8 @@ pub(crate) enum Wanted<'k> {
 /// The key of the regions.
 const REGION: &[u8] = b"region";
 
-/// How many members of a table between braces are looked at.
+/// How many members of a table between braces are looked at. Each is found from the first on, so the time grows with the
+/// square of it; a table of a region has four.
 const MOST_MEMBERS: usize = 64;
 
 /// How many bytes of the text, which is a TOML document, stand before what is wanted, if it is found.

@@ -6,7 +6,7 @@ ghost use Rattle.pp_frames.specs.Words.{has_bit};
 
 use std::alloc::{AllocError, Global};
 
-/// How many bits a word has.
+/// How many bits a word has: as many as the processor tests at once.
 pub(crate) const BITS: u32 = 64;
 
 /// So many words, of which none has a bit.

@@ -12,10 +12,10 @@ ghost use Rattle.pp_journal.specs.Entries.{event_of, is_packed, is_packed_event,
 use core::mem::size_of;
 use pp_model::{Came, Ending, Event, Failure, Move, Reply};
 
-/// Workers below this number have their number in one byte.
+/// Workers below this number have their number in one byte, so that an entry has 16 in all.
 const WORKERS: u32 = 256;
 
-/// Frames below this number have their number in two bytes.
+/// Frames below this number have their number in two bytes, for the same reason.
 const FRAMES: u32 = 65_536;
 
 /// An event in 16 bytes, or where it stands else.

@@ -14,7 +14,8 @@ use pp_names::Names;
 use std::alloc::{AllocError, Global};
 use std::marker::Model;
 
-/// The least room that is made for keys is for this one and those that are lower in number.
+/// The least room that is made for keys is for this one and those that are lower in number: for 16, so that a small cache
+/// doesn't take memory at each of its first keys.
 const FIRST_ROOM: u32 = 15;
 
 /// A page cache: which page is in which frame, which pages are pinned, and which page leaves for another.

@@ -23,7 +23,7 @@ const NO_NUMBER: &str =
 /// What ends a word: white space, a bracket, a comma, a colon, a quote or a comment.
 const WORD_ENDS: &[u8] = b" \t\n\r{}[],:\"/#";
 
-/// In how many lists and objects a value may stand.
+/// In how many lists and objects a value may stand: as many as serde_json reads.
 const DEEPEST: usize = 127;
 
 /// What comes next in a JSON text.

@@ -2,11 +2,13 @@
 
 use crate::statement::slot_in;
 use crate::steps::Step;
+use pp_settings::limits::MOST_DEPTH;
 use serde_json::Value;
 use std::alloc::{AllocError, Global};
 
-/// How deep statements are looked for: one deeper than they may stand.
-const DEEPEST: u8 = 17;
+/// How deep statements are looked for: one deeper than they may stand, since the first one that stands too deep is sought
+/// too.
+const DEEPEST: u8 = MOST_DEPTH + 1;
 
 /// What a statement is looked for by.
 #[derive(Clone, Copy)]

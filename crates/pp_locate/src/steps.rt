@@ -17,7 +17,8 @@ pub enum Step<'a> {
     Item(usize),
 }
 
-/// How many bytes a key has at most that is written without quotes.
+/// How many bytes a key has at most that is written without quotes: as many as a region's name. No key that a text may have
+/// is longer.
 const PLAIN: usize = 32;
 
 /// The steps as a text, as in `body[2].body[0]`.

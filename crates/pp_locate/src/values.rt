@@ -5,7 +5,7 @@ ghost use Rattle.std.specs.Prelude.{◌≡◌, ◌≤◌, ◌+◌, IfOk, length,
 use pp_shown::ShownChar;
 use std::alloc::{AllocError, Global};
 
-/// How many bytes of a text are shown.
+/// How many bytes of a text are shown: a line on a terminal, or two. With more, a long text would hide what is said of it.
 const SHOWN: usize = 100;
 
 /// The text, or its front with two dots behind.

@@ -7,12 +7,14 @@ ghost use Rattle.pp_locate.specs.Words.{texts};
 use std::alloc::{AllocError, Global};
 use strsim::osa_distance;
 
-/// How many bytes a word has at most that is compared with known ones.
+/// How many bytes a word has at most that is compared with known ones. Those have 32 at most (a region's name), and to
+/// compare takes time by the product of both lengths.
 const LONGEST: usize = 40;
 
-/// How many words a list shows, and how many bytes.
+/// How many words a list shows: with more, it would hide what is said of it.
 const SHOWN: usize = 16;
 
+/// How many bytes it shows: as many as of one text.
 const SHOWN_BYTES: usize = 100;
 
 /// The words with commas between them; two dots stand for those behind the sixteenth, and behind 100 bytes.

@@ -7,7 +7,8 @@
 ghost use Rattle.std.specs.Prelude.{◌≡◌, ◌≢◌, ℕ, ◌+◌, ◌*◌, ◌^◌, ◌<◌, ◌≤◌, List, length, slice_set, Option, Some, None};
 ghost use Rattle.pp_names.specs.Slots.{none, at, home_of, next_of, distance_of, IsTable};
 
-/// What stands in an empty slot, and in the place of the key of a name that has none.
+/// What stands in an empty slot, and in the place of the key of a name that has none: the greatest number of 32 bits, which
+/// neither a name nor a key is.
 pub(crate) const NONE: u32 = 4_294_967_295;
 
 /// An odd number near 2^32 divided by the golden ratio: its products scatter keys that lie close together.

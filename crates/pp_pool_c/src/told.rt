@@ -5,7 +5,7 @@ ghost use Rattle.pp_pool_c.specs.Asks.{told_of, told_nobody};
 
 use pp_steps::Rings;
 
-/// No bell, and no page.
+/// No bell, and no page: the greatest number of 32 bits. Bells are below 65,536, and pages below 4,294,967,292.
 pub const NOBODY: u32 = 4_294_967_295;
 
 /// Whom a call has told that they can go on.

@@ -8,10 +8,11 @@ ghost use Rattle.pp_run.specs.Agreeing.{Agrees, AllAgree};
 use crate::stop::Worked;
 use pp_pool::Journal;
 use pp_report::names_worker;
+use pp_settings::limits::FIRST_WORKERS;
 
-/// How many logs are compared in one pass: as many as a pool of version 1 has workers. Each has a count in an array; the logs of more
-/// workers are gone over one by one.
-const TOGETHER: usize = 32;
+/// How many logs are compared in one pass: as many as a pool of version 1 has workers. Each has a count in an array; the
+/// logs of more workers are gone over one by one.
+const TOGETHER: usize = FIRST_WORKERS as usize;
 
 /// How many events of each of the first logs are those of its worker's part; `None` of a log that isn't that part.
 pub(crate) type Agreement = [Option<usize>; TOGETHER];
@@ -56,7 +57,8 @@ fn after(count: Option<usize>, log: &Journal, events: &Journal, place: usize) ->
     }
 }
 
-/// Whether the log is the worker's part of these events. That of a worker beyond those that are compared together is compared alone.
+/// Whether the log is the worker's part of these events. That of a worker beyond those that are compared together is
+/// compared alone.
 pub(crate) fn is_part(counts: &Agreement, log: &Journal, events: &Journal, worker: u32) -> bool
     requires { (c : _) → worker < length counts.now
         → Agrees (slice_index_or counts.now worker c) log.now.items worker events.now.items (length events.now.items) }

@@ -17,10 +17,8 @@ use crate::seated::Seated;
 use crate::seats::Seats;
 use crate::site::KeptHall;
 use crate::steps::Steps;
+use pp_device::image::HEAD;
 use pp_vault::{Errand, Flushing, Guard, Guards, ReadGuard, Stage};
-
-/// How many bytes of an image the head takes.
-const HEAD: usize = 12;
 
 impl Steps {
     /// Copies the image that the host's device is to write.

@@ -3,10 +3,11 @@
 ghost use Rattle.std.specs.Prelude.{◌≡◌, ◌<◌, ◌+◌, ◌*◌, ◌/◌, ◌%◌};
 ghost use Rattle.pp_steps.specs.Passes.{number_of, told_by, IsPass};
 
-/// How many bells there may be.
+/// How many bells there may be: a pass goes to the host as one number of 64 bits, and its lower 16 are the bell.
 const BELLS: u64 = 65_536;
 
-/// The greatest turn of a seat. A seat that has had so many gives no further pass.
+/// The greatest turn of a seat: 2^48 - 1, all that the other 48 bits of a pass count. A seat that has had so many gives no
+/// further pass, so that none is told twice.
 pub(crate) const LAST_TURN: u64 = 281_474_976_710_655;
 
 /// By what a host names one that waits, or that runs: its bell, and how many had that seat before. It is a number, and is

@@ -25,7 +25,8 @@ use pp_settings::Settings;
 use std::alloc::{AllocError, AllocFailed, Global};
 use std::marker::Model;
 
-/// How long the queue may be.
+/// How long the queue may be. Of the 65,536 bells of passes the chairs have 32 at most, the flusher has one, and each place
+/// of the queue has one; the rest is kept free.
 const LONGEST_QUEUE: u32 = 65_000;
 
 /// A pool that stands, whose host is asked for each step, and whose device is the host's.
