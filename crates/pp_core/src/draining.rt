@@ -14,7 +14,8 @@ use crate::table::Table;
 use pp_model::{Came, Move, Turn};
 use pp_plan::Ask;
 
-/// What decides for workers and device, where a pool is driven to its end by [`Core::drain`].
+/// What decides for workers and device, where a pool is driven to its end by [`Core::drain`]. Only tests have such hosts; what
+/// `drain` promises holds of all.
 ///
 /// Each host says what its answers mean by a relation of its own for each question: from the host as it was, with these
 /// numbers, this answer, and the host as it is then. A relation that holds of all says nothing; one that pins the answer,

@@ -292,7 +292,8 @@ impl Core {
 
     /// Does the moves in turn, each as [`Core::step`] does, and adds their replies to those that are there.
     ///
-    /// Room for all replies is got first. A refused move doesn't end the run.
+    /// Room for all replies is got first. A refused move doesn't end the run. Tests use it, and proofs: that a list of moves is
+    /// answered as the model does is said here. A vault and what stands on it make one move at a time.
     ///
     /// # Errors
     ///
@@ -338,6 +339,9 @@ impl Core {
     ///
     /// Each of the moves is possible, whatever is decided, and there are at most as many as [`Core::budget`] tells at
     /// the start. In the end every plan was ended, exactly once, and no flush is in flight.
+    ///
+    /// Tests use it, and the promise of progress with a bound is proved of it. No part of a pool that runs calls it: its workers
+    /// ask for their own moves.
     pub fn drain<D: Decide>(&mut self, decide: &mut D) -> u64
         ensures within { result + self.new.budget ≤ self.old.budget }
         ensures rest { Rests self.new }

@@ -71,13 +71,6 @@ impl Script {
         Script::read(alloc, text)
     }
 
-    /// The cues, in the order of their lines.
-    pub fn cues(&self) -> &[Cue]
-        ensures { result.now ≡ self.now.cues }
-    {
-        &self.cues
-    }
-
     /// The cues, and the troubles of the device with the numbers of their calls, each in the order of their lines.
     pub fn into_parts(self) -> (Vec<Cue>, Vec<(u32, Trouble)>)
         ensures cues { result.0.items ≡ self.cues }
