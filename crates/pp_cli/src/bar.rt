@@ -1,6 +1,6 @@
 //! A bar on a terminal that shows how far a long job is.
 
-use pp_format::Watch;
+use pp_device::Watch;
 use pp_judge::DeviceSize;
 use std::io::Write;
 

@@ -2,7 +2,7 @@
 
 ghost use Rattle.std.specs.Prelude.{◌≡◌, ◌≤◌, ◌∷◌, [], IfOk, IfErr, IfSome, None, MatchResult, length, map, option_map, replicate, vec_len};
 ghost use Rattle.std.specs.Io.KnownBytes.{Appends};
-ghost use Rattle.pp_format.specs.DeviceFile.{blank_file};
+ghost use Rattle.pp_device.specs.DeviceFile.{blank_file};
 ghost use Rattle.pp_judge.specs.Answers.{ComesTo, audit_answer_of, formatted, seen};
 ghost use Rattle.pp_words.specs.CommandLine.{asked_annotate, asked_audit, asked_by, asked_check, asked_draw};
 ghost use Rattle.pp_words.specs.CommandLine.{asked_format, asked_simulate, text_in, texts};
@@ -16,9 +16,9 @@ use crate::holding::hold_anew;
 use crate::keeping::keep;
 use crate::running::run;
 use crate::segments::audit_segments;
+use pp_device::format_onto;
 use pp_device::image::HEAD;
 use pp_explain::Sources;
-use pp_format::format_onto;
 use pp_judge::{
     AnnotateFiles, AuditFiles, CheckFiles, Contents, DeviceSize, DrawFiles, Exit, Figures,
     FileFault, SimulateFiles, device_size, exit_of,

@@ -1,3 +1,4 @@
 mod DiskLemmas
+mod Files
 mod Heads
 mod Planting

@@ -1,5 +1,6 @@
 -- What the contracts of this crate cite.
 pub mod Answers
+pub mod DeviceFile
 pub mod Disk
 pub mod Faults
 pub mod Honest

@@ -1,7 +1,8 @@
-//! Laws of the definitions: what was written is read, and which devices keep every byte.
+//! Laws of the definitions: what was written is read, which devices keep every byte, and where a page stands in a file.
 
-ghost use Rattle.std.specs.Prelude.{◌≡◌, ◌≢◌, ℕ, ◌^◌, ◌<◌, ◌≤◌, List, length, All, Ok};
-ghost use Rattle.pp_device.specs.Image.{with_head, head_of, body_of};
+ghost use Rattle.std.specs.Prelude.{◌≡◌, ◌≢◌, ℕ, ◌^◌, ◌*◌, ◌<◌, ◌≤◌, List, length, All, Ok};
+ghost use Rattle.pp_device.specs.Image.{with_head, head_of, body_of, blank_image};
+ghost use Rattle.pp_device.specs.DeviceFile.{blank_file, page_in_file};
 ghost use Rattle.pp_device.specs.Disk.{Disk, DiskReads, DiskWrites, image_of};
 ghost use Rattle.pp_device.specs.Honest.{SoloIsHonest, FailingIsHonest};
 
@@ -38,4 +39,12 @@ pub fn solo_devices_are_honest()
 /// to fail changes nothing.
 pub fn failing_devices_are_honest<D: Device>()
     ensures { FailingIsHonest D.read_gives D.write_leaves }
+{}
+
+/// A blank file has the bytes of its pages and no more, and the image of each page at its place.
+pub fn pages_stand_in_order()
+    ensures length { (pages page_bytes : ℕ) → HEAD ≤ page_bytes
+        → length (blank_file pages page_bytes) ≡ pages * page_bytes }
+    ensures page { (pages page_bytes page : ℕ) → HEAD ≤ page_bytes → page < pages
+        → page_in_file (blank_file pages page_bytes) page_bytes page ≡ blank_image page_bytes page }
 {}

@@ -8,10 +8,10 @@ use Rattle.std.proofs.lemmas.Fmt.{decimal_is_IsNumeral}
 use Rattle.std.proofs.lemmas.Slice.Eq.{bytes_eq-Decides}
 use Rattle.std.proofs.lemmas.Str.Parse.{digit_at}
 use Rattle.std.proofs.Math.ListN.{get_or-append}
-use Rattle.pp_lines.specs.Parts.{ahead, behind}
-use Rattle.pp_lines.specs.Numbers.{number_in, small_number}
-use Rattle.pp_lines.proofs.Cutting.{ahead_at, behind_at, cut_found, cut_whole}
-use Rattle.pp_lines.proofs.Printed.{digits, number_again, number_found, small_again, small_found, then_some}
+use Rattle.pp_text.specs.Parts.{ahead, behind}
+use Rattle.pp_text.specs.Numbers.{number_in, small_number}
+use Rattle.pp_text.proofs.Cutting.{ahead_at, behind_at, cut_found, cut_whole}
+use Rattle.pp_text.proofs.Printed.{digits, number_again, number_found, small_again, small_found, then_some}
 use Rattle.pp_model.specs.Words.{written_word, came_words, failure_word}
 use Rattle.pp_model.specs.declared.moves.Came.{Came}
 use Rattle.pp_model.specs.declared.moves.Came.TheVariants.{Fault, Image}

@@ -5,8 +5,8 @@ ghost use Rattle.pp_report.specs.Reading.{sides, leading, written_in, came_in, f
 ghost use Rattle.pp_report.specs.Reading.{asked_in, told_alone, told_of, told_after, told_in, line_in};
 
 use crate::line::{Asked, Line, Told};
-use pp_lines::{cut, number, small_number};
 use pp_model::{Came, Ending, Failure, Move, Reply};
+use pp_text::{cut, number, small_number};
 
 // ---- parts of a side
 

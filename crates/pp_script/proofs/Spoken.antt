@@ -17,12 +17,12 @@ use Rattle.pp_script.specs.declared.line.Line.{Line}
 use Rattle.pp_script.specs.declared.line.Line.TheVariants.{Blank, Cued, Planted}
 use Rattle.pp_script.specs.Cues.{with_spaces}
 use Rattle.pp_script.specs.Lines.{words, said_words, FitsLine, Says}
-use Rattle.pp_lines.specs.Numbers.{number_in, small_number}
+use Rattle.pp_text.specs.Numbers.{number_in, small_number}
 use Rattle.pp_script.specs.Reading.{alone, with_one, with_two, with_three, after_two}
 use Rattle.pp_script.specs.Reading.{after_one}
 use Rattle.pp_script.specs.Reading.{line_in}
-use Rattle.pp_lines.proofs.Cutting.{parts_one, parts_more}
-use Rattle.pp_lines.proofs.Printed.{number_again, number_found, small_again, small_found, then_some, digits}
+use Rattle.pp_text.proofs.Cutting.{parts_one, parts_more}
+use Rattle.pp_text.proofs.Printed.{number_again, number_found, small_again, small_found, then_some, digits}
 
 -- ---- words have no space
 

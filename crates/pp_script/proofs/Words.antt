@@ -5,8 +5,8 @@ use Rattle.std.specs.Prelude.{option_and_then}
 use Rattle.std.proofs.lemmas.List.Splits.{length-slice_split}
 use Rattle.pp_script.specs.declared.line.Line.{Line}
 use Rattle.pp_script.specs.declared.line.Line.TheVariants.{Blank}
-use Rattle.pp_lines.specs.Parts.{parts}
-use Rattle.pp_lines.specs.Numbers.{small_number}
+use Rattle.pp_text.specs.Parts.{parts}
+use Rattle.pp_text.specs.Numbers.{small_number}
 use Rattle.pp_script.specs.Lines.{words}
 use Rattle.pp_script.specs.Reading.{after_two, after_one}
 use Rattle.pp_script.specs.Reading.{after_word, line_in}

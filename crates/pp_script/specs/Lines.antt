@@ -1,6 +1,6 @@
 -- The lines of a text, and what a line says.
 use Rattle.std.specs.Prelude.{◌≡◌, ℕ, List, []}
-use Rattle.pp_lines.specs.Parts.{parts}
+use Rattle.pp_text.specs.Parts.{parts}
 use Rattle.pp_script.specs.declared.line.Line.{Line}
 use Rattle.pp_script.specs.declared.line.Line.TheVariants.{Blank, Cued, Planted}
 use Rattle.pp_script.specs.Cues.{with_spaces, cue_words, FitsCue, trouble_words, FitsTrouble}

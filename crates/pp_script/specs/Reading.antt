@@ -5,7 +5,7 @@ use Rattle.std.specs.Option.{ok_or}
 use Rattle.std.specs.Str.{bytes_eq}
 use Rattle.pp_device.specs.declared.failing.Trouble.TheVariants.{Fail, Lie}
 use Rattle.pp_text.specs.Steps.{◌>>=◌}
-use Rattle.pp_lines.specs.Numbers.{number_in, small_number}
+use Rattle.pp_text.specs.Numbers.{number_in, small_number}
 use Rattle.pp_script.specs.declared.cue.Cue.TheVariants.{Take, Fix, Device, Unfix, Latch, Unlatch, Choose, Unwind}
 use Rattle.pp_script.specs.declared.cue.Cue.TheVariants.{Finish, Flush, FlushDevice, Write, Look}
 use Rattle.pp_script.specs.declared.line.Line.{Line}

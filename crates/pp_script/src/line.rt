@@ -7,7 +7,7 @@ ghost use Rattle.pp_script.specs.Reading.{after_two, after_one, after_word, line
 
 use crate::cue::Cue;
 use pp_device::Trouble;
-use pp_lines::{cut, number, small_number};
+use pp_text::{cut, number, small_number};
 
 /// What a line says.
 #[derive(Clone, Copy)]

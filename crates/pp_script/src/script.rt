@@ -13,7 +13,7 @@ use crate::cue::Cue;
 use crate::error::ScriptError;
 use crate::line::{Line, line_in};
 use pp_device::Trouble;
-use pp_lines::cut;
+use pp_text::cut;
 use std::alloc::Global;
 use std::marker::Model;
 

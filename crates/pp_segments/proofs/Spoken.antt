@@ -5,10 +5,10 @@ use Rattle.std.specs.Prelude.{option_map, option_and_then}
 use Rattle.std.specs.Fmt.{decimal}
 use Rattle.std.specs.Str.{bytes_eq}
 use Rattle.std.proofs.lemmas.Slice.Eq.{bytes_eq-Decides}
-use Rattle.pp_lines.specs.Parts.{ahead, behind}
-use Rattle.pp_lines.specs.Numbers.{number_in, small_number}
-use Rattle.pp_lines.proofs.Cutting.{ahead_at, behind_at, cut_found}
-use Rattle.pp_lines.proofs.Printed.{digits, number_again, number_found, small_again, small_found, then_some}
+use Rattle.pp_text.specs.Parts.{ahead, behind}
+use Rattle.pp_text.specs.Numbers.{number_in, small_number}
+use Rattle.pp_text.proofs.Cutting.{ahead_at, behind_at, cut_found}
+use Rattle.pp_text.proofs.Printed.{digits, number_again, number_found, small_again, small_found, then_some}
 use Rattle.pp_model.specs.declared.moves.Move.{Move}
 use Rattle.pp_model.specs.declared.moves.Move.TheVariants.{Take, Fix, WriteDone, ReadDone, Unfix, Latch, Unlatch}
 use Rattle.pp_model.specs.declared.moves.Move.TheVariants.{Choose, Unwind, Finish, FlushBegin, FlushDone}

@@ -1,8 +1,8 @@
 -- Reading a line of a segment, in steps.
 use Rattle.std.specs.Prelude.{ℕ, List, Option, Some, None, if◌then◌else◌, option_map, option_and_then, codes}
 use Rattle.std.specs.Str.{bytes_eq}
-use Rattle.pp_lines.specs.Parts.{ahead, behind}
-use Rattle.pp_lines.specs.Numbers.{number_in, small_number}
+use Rattle.pp_text.specs.Parts.{ahead, behind}
+use Rattle.pp_text.specs.Numbers.{number_in, small_number}
 use Rattle.pp_model.specs.declared.moves.Move.{Move}
 use Rattle.pp_model.specs.declared.reply.Reply.TheVariants.{Taken}
 use Rattle.pp_report.specs.declared.line.Asked.{Asked}

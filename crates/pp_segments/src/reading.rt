@@ -5,9 +5,9 @@ ghost use Rattle.pp_report.specs.Reading.{sides};
 ghost use Rattle.pp_segments.specs.Reading.{head_in, submit_in, move_in, answered_in, step_in, line_from, line_in};
 
 use crate::line::SegmentLine;
-use pp_lines::{cut, number, small_number};
 use pp_model::{Move, Reply};
 use pp_report::{Asked, Told};
+use pp_text::{cut, number, small_number};
 
 /// What stands before the first equals sign between spaces, and what follows it.
 fn sides(text: &str) -> Option<(&str, &str)>

@@ -5,8 +5,7 @@ use crate::shared::{
     BLANK, BYTES, CHANGED, ends_of_file, ends_with, fails, holds, path_of, reads, refuses,
     write_file, writes,
 };
-use pp_device::Fault;
-use pp_format::{Nobody, format_onto};
+use pp_device::{Fault, Nobody, format_onto};
 use pp_shared::{OpenError, SharedDevice};
 use std::fs;
 use std::fs::File;

@@ -1,7 +1,7 @@
 //! The answers to questions, each as the program would end with it.
 
 use crate::row::{Question, Row};
-use pp_format::{Nobody, format_onto};
+use pp_device::{Nobody, format_onto};
 use pp_judge::{DeviceSize, Exit, JudgeError, device_size, exit_of};
 use pp_plan::{Plan, PlanError};
 use pp_report::Line;

@@ -6,9 +6,9 @@ use crate::segments::segments_paragraph;
 use pp_core::PrepareError;
 use pp_explain::{Refused, Source, Sources, Stop, explain, repeated};
 use pp_judge::{Exit, JudgeError};
-use pp_lines::small_number;
 use pp_segments::SegmentError;
 use pp_simulate::SimulateError;
+use pp_text::small_number;
 use std::alloc::{AllocError, Global};
 use std::str;
 

@@ -5,7 +5,7 @@ use pp_explain::Source;
 use pp_judge::{
     AnnotateFiles, AuditFiles, CheckFiles, Contents, DrawFiles, SegmentsFiles, SimulateFiles,
 };
-use pp_lines::small_number;
+use pp_text::small_number;
 use std::alloc::{AllocError, Global};
 use std::rt::Files;
 use std::{fs, io};

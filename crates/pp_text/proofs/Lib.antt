@@ -4,3 +4,5 @@ pub mod Keys
 pub mod Values
 pub mod Escapes
 pub mod Positions
+pub mod Cutting
+pub mod Printed

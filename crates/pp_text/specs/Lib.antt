@@ -1,5 +1,7 @@
 pub mod Steps
 pub mod Names
+pub mod Parts
+pub mod Numbers
 pub mod Objects
 pub mod First
 pub mod Words

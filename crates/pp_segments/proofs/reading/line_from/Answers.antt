@@ -1,6 +1,6 @@
 use Rattle.std.proofs.Common.{◌≡◌, ◌∙◌, false, codes, rules}
 use Rattle.std.specs.Str.{bytes_eq}
-use Rattle.pp_lines.specs.Parts.{ahead}
+use Rattle.pp_text.specs.Parts.{ahead}
 use Rattle.pp_segments.proofs.Spoken.{line_default}
 use Rattle.pp_segments.proofs.reading.line_from.Goals as goal
 

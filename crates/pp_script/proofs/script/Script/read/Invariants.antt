@@ -1,6 +1,6 @@
 use Rattle.std.proofs.Common.{◌≡◌, ℕ, ◌+◌, ◌≤◌, length, Option, Some, None, List}
 use Rattle.std.specs.Borrow.{Bor}
-use Rattle.pp_lines.specs.Parts.{later_parts}
+use Rattle.pp_text.specs.Parts.{later_parts}
 use Rattle.pp_script.specs.Reading.{reading, reading_from}
 use Rattle.pp_script.proofs.script.Script.read.Given as goal
 

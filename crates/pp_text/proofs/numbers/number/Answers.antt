@@ -1,7 +1,7 @@
 use Rattle.std.proofs.Common.{◌∙◌}
 use Rattle.std.proofs.lemmas.Bool.{false≢true}
-use Rattle.pp_lines.proofs.Printed.{parsed, not_plain}
-use Rattle.pp_lines.proofs.numbers.number.Goals as goal
+use Rattle.pp_text.proofs.Printed.{parsed, not_plain}
+use Rattle.pp_text.proofs.numbers.number.Goals as goal
 
 pub returns-then-is_plain : goal.returns-then-is_plain
 returns-then-is_plain c =

@@ -1,7 +1,7 @@
 //! Texts in parts: the lines of a text, and the words of a line.
 
 ghost use Rattle.std.specs.Prelude.{◌≡◌, ◌∷◌, ◌≤◌, ◌<◌, IfSome, length, option_map};
-ghost use Rattle.pp_lines.specs.Parts.{parts, later_parts, ahead, behind};
+ghost use Rattle.pp_text.specs.Parts.{parts, later_parts, ahead, behind};
 
 /// The text before the first such character, and what follows that character, if the text has one.
 pub fn cut(text: &str, separator: char) -> (&str, Option<&str>)

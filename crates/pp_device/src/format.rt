@@ -2,11 +2,11 @@
 
 ghost use Rattle.std.specs.Prelude.{◌≡◌, ◌≤◌, OnOk, replicate, vec_len};
 ghost use Rattle.std.specs.Io.KnownBytes.{Appends};
-ghost use Rattle.pp_format.specs.DeviceFile.{blank_file};
+ghost use Rattle.pp_device.specs.DeviceFile.{blank_file};
 
+use crate::image;
+use crate::image::HEAD;
 use crate::watch::Watch;
-use pp_device::image;
-use pp_device::image::HEAD;
 use std::io;
 use std::io::Write;
 

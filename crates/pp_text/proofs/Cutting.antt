@@ -4,7 +4,7 @@ use Rattle.std.proofs.Common.{Some, None, if◌then◌else◌, arith, refl, ap, 
 use Rattle.std.proofs.lemmas.Bool.Decides.{nat_tests}
 use Rattle.std.proofs.lemmas.List.Elements.{All-from_get_or}
 use Rattle.std.proofs.lemmas.List.Splits.{slice_split_at, slice_split_none}
-use Rattle.pp_lines.specs.Parts.{parts, ahead, behind}
+use Rattle.pp_text.specs.Parts.{parts, ahead, behind}
 
 other : (a b : ℕ) → a ≢ b → (a == b) ≡ false
 other a b h = grind (arith, nat_tests)

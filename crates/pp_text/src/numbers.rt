@@ -1,7 +1,7 @@
 //! Numbers, exactly as they are printed.
 
 ghost use Rattle.std.specs.Prelude.{◌≡◌, ◌≢◌, IsTrue, ◌↔◌, length, slice_index};
-ghost use Rattle.pp_lines.specs.Numbers.{number_in, small_number};
+ghost use Rattle.pp_text.specs.Numbers.{number_in, small_number};
 
 /// Whether the word has no sign, and no zero before other digits.
 fn is_plain(word: &str) -> bool

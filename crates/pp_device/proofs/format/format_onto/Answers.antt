@@ -3,9 +3,9 @@ use Rattle.std.specs.Prelude.{replicate}
 use Rattle.std.specs.Io.KnownBytes.{Appends}
 use Rattle.std.proofs.KnownBytes.{Appends-nil, Appends-trans}
 use Rattle.pp_device.specs.Image.{blank_image, with_head}
-use Rattle.pp_format.specs.DeviceFile.{blank_file}
-use Rattle.pp_format.proofs.Files.{blank_file-more, replaced}
-use Rattle.pp_format.proofs.format.format_onto.Goals as goal
+use Rattle.pp_device.specs.DeviceFile.{blank_file}
+use Rattle.pp_device.proofs.Files.{blank_file-more, replaced}
+use Rattle.pp_device.proofs.format.format_onto.Goals as goal
 
 pub loop-page-init : goal.loop-page-init
 unfolding blank_file

@@ -9,7 +9,7 @@ use Rattle.std.proofs.lemmas.Bool.{cases_lt}
 use Rattle.std.proofs.lemmas.Nat.{mul-le}
 use Rattle.std.proofs.Math.Seq.{drop-append_seam, take-append_seam}
 use Rattle.pp_device.specs.Image.{blank_image, with_head}
-use Rattle.pp_format.specs.DeviceFile.{blank_file, page_in_file}
+use Rattle.pp_device.specs.DeviceFile.{blank_file, page_in_file}
 
 -- One more page stands behind the others.
 pub blank_file-more : (page_bytes n : ℕ) → blank_file (n + 1) page_bytes ≡ blank_file n page_bytes ++ blank_image page_bytes n

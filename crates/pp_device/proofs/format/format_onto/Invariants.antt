@@ -1,8 +1,8 @@
 use Rattle.std.proofs.Common.{◌≡◌, ℕ, vec_len}
 use Rattle.std.specs.Io.KnownBytes.{Appends}
 use Rattle.pp_device.specs.Image.{blank_image, with_head}
-use Rattle.pp_format.specs.DeviceFile.{blank_file}
-use Rattle.pp_format.proofs.format.format_onto.Given as goal
+use Rattle.pp_device.specs.DeviceFile.{blank_file}
+use Rattle.pp_device.proofs.format.format_onto.Given as goal
 
 abbrev pub invariant-loop-page : goal.invariant-loop-page
 invariant-loop-page g l =

@@ -13,7 +13,7 @@ use Rattle.std.proofs.lemmas.Fmt.{parse-decimal}
 use Rattle.std.proofs.lemmas.Slice.Eq.{bytes_eq-Decides}
 use Rattle.std.proofs.lemmas.Str.Parse.{numerals_by_value, tells_digits, IsNumeralModel, without_leading_plus_none}
 use Rattle.std.proofs.lemmas.Str.Parse.{not_in_digits}
-use Rattle.pp_lines.specs.Numbers.{number_in, of_32_bits, small_number}
+use Rattle.pp_text.specs.Numbers.{number_in, of_32_bits, small_number}
 
 both : (a b : Bool) → a ≡ true → b ≡ true → (a && b) ≡ true
 both a b p q = rw (p, q) refl

@@ -1,8 +1,8 @@
 use Rattle.std.proofs.Common.{Some, None, sym, ap, ◌∙◌}
 use Rattle.std.proofs.lemmas.Str.Pattern.{split_parts}
-use Rattle.pp_lines.specs.Parts.{ahead, behind}
-use Rattle.pp_lines.proofs.Cutting.{parts_one, parts_more, ahead_at, behind_at, ahead_none, behind_none}
-use Rattle.pp_lines.proofs.cuts.cut.Goals as goal
+use Rattle.pp_text.specs.Parts.{ahead, behind}
+use Rattle.pp_text.proofs.Cutting.{parts_one, parts_more, ahead_at, behind_at, ahead_none, behind_none}
+use Rattle.pp_text.proofs.cuts.cut.Goals as goal
 
 pub returns-in-Some-clause-parts : goal.returns-in-Some-clause-parts
 returns-in-Some-clause-parts c =
