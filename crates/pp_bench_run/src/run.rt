@@ -8,11 +8,12 @@ use crate::words::Asked;
 use pp_bench_traces::{PAGES, Trace};
 use pp_cert::Accepted;
 use pp_model::{Event, Reply};
-use pp_run::{Journal, Pool};
+use pp_run::{Journal, run_once};
 use pp_settings::Settings;
 use pp_shared::SharedDevice;
 use std::alloc::{AllocError, Global};
 use std::sync::Wait;
+use std::sync::atomic::AtomicU64;
 use std::thread::Threads;
 use std::time::Clock;
 
@@ -44,7 +45,8 @@ pub fn run<R: AllocGlobal + Threads + Wait + Clock + Copy + Drop + Sync + Send>(
     let works = works(rt, alloc, &settings, &span, asked)?;
     let page_bytes = settings.page_bytes() as usize;
     let devices = SharedDevice::over_memory(rt, alloc, PAGES, page_bytes, workers as usize + 1)?;
-    let ran = Pool::run(&rt, alloc, &settings, plans, devices, works);
+    let finished = AtomicU64::new(0);
+    let ran = run_once(&rt, alloc, &settings, plans, devices, works, &finished);
     let (record, _devices) = ran.map_err(Trouble::Failed)?;
     let operations = u64::from(workers) * asked.ops;
     Ok(Ran {

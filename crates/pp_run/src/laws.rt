@@ -7,7 +7,7 @@ use pp_pool::Journal;
 use pp_report::laws::whole_lives_are_audited;
 
 /// The runs over one pool are its lives, from a new pool on: so say the clauses `life` and `pool` of each
-/// [`Pool::run_on`](crate::Pool::run_on).
+/// [`Pool::run`](crate::Pool::run).
 pub fn runs_are_lives()
     ensures new { NewHasNotLived }
     ensures next { RunsAreLives }

@@ -25,8 +25,8 @@ use crate::error::RunError;
 use crate::judging::{Left, judge};
 use crate::locked::Locked;
 use crate::planning::{need_of, submit_all};
+use crate::pool::Pool;
 use crate::renewing::told;
-use crate::rested::RestedPool;
 use crate::site::LockedSite;
 use crate::stalled::Stalled;
 use crate::stop::{Flushed, Worked};
@@ -101,9 +101,9 @@ pub(crate) struct Ready<D: Device + Drop> {
 /// Why the run isn't begun, and the pool as it was.
 pub(crate) fn made_ready<D: Device + Drop>(
     alloc: Global,
-    pool: RestedPool,
+    pool: Pool,
     plans: &[Accepted],
-) -> Result<Ready<D>, (RunError, RestedPool)>
+) -> Result<Ready<D>, (RunError, Pool)>
     ensures settings { IfOk result (λ r. settings_of r.book ≡ pool.settings) }
     ensures outset { IfOk result (λ r. r.book.began ≡ pool.began) }
     ensures state { IfOk result (λ r. state_of r.book ≡ opening_of pool) }
@@ -134,9 +134,9 @@ pub(crate) fn made_ready<D: Device + Drop>(
 /// [`RunError::OutOfMemory`], or [`RunError::Broken`] with the flusher's number where a mark has come to 2^63; and the pool as it was.
 pub(crate) fn ready_with<D: Device + Drop>(
     alloc: Global,
-    pool: RestedPool,
+    pool: Pool,
     room: usize,
-) -> Result<Ready<D>, (RunError, RestedPool)>
+) -> Result<Ready<D>, (RunError, Pool)>
     requires room { 2 * pool.settings.flushes ≤ room }
     ensures settings { IfOk result (λ r. settings_of r.book ≡ pool.settings) }
     ensures outset { IfOk result (λ r. r.book.began ≡ pool.began) }
@@ -165,7 +165,7 @@ pub(crate) fn ready_with<D: Device + Drop>(
     let Ok(bells) = Bells::new(alloc) else {
         return Err((RunError::OutOfMemory, pool));
     };
-    let RestedPool {
+    let Pool {
         mut book,
         hands,
         layout,
@@ -184,7 +184,7 @@ pub(crate) fn ready_with<D: Device + Drop>(
             bells,
         }),
         Err(error) => {
-            let pool = RestedPool {
+            let pool = Pool {
                 book,
                 hands,
                 layout,

@@ -1,230 +1,123 @@
-//! All plans at once, on threads.
+//! A pool between two runs.
 
-ghost use Rattle.std.specs.Prelude.{◌≡◌, ◌⊎◌, ◌+◌, Ok, IfOk, IfErr, length, vec_len};
-ghost use Rattle.pp_settings.specs.declared.span.Span.TheVariants.{Bounded};
+ghost use Rattle.std.specs.Prelude.{◌≡◌, IfOk, IfErr};
 ghost use Rattle.pp_core.specs.Opening.{kept_of};
-ghost use Rattle.pp_model.specs.Journals.{replay};
-ghost use Rattle.pp_model.specs.Lives.{IsLife};
-ghost use Rattle.pp_report.specs.Auditing.{auditing};
-ghost use Rattle.pp_report.specs.Audits.{IsOver};
-ghost use Rattle.pp_report.specs.Lines.{journal_words};
-ghost use Rattle.pp_run.specs.Joins.{IsAnswer, IsAnswerFrom};
-ghost use Rattle.pp_run.specs.Rested.{opening_of, ComesBack};
-ghost use Rattle.pp_run.specs.Runs.{AllCalled, IsRun, IsRunFrom, IsRunError, IsRunErrorFrom};
-ghost use Rattle.pp_run.specs.Unrun.{IsLeftOf, IsUnrenewedIn};
+ghost use Rattle.pp_model.specs.Pool.{dirty_pages};
+ghost use Rattle.pp_settings.specs.declared.span.Span.TheVariants.{Bounded};
+ghost use Rattle.pp_model.specs.Reached.{IsReached};
+ghost use Rattle.pp_outset.specs.Outsets.{new_outset};
+ghost use Rattle.pp_run.specs.Rested.{opening_of};
+ghost use Rattle.pp_run.specs.declared.error.RunError.TheVariants as run_errors;
 
 use crate::error::RunError;
-use crate::life::{live, made_ready};
-use crate::rested::RestedPool;
-use crate::unrun::{Unbegun, Unrun};
-use pp_cert::Accepted;
-use pp_device::Device;
-use pp_pool::Work;
-use pp_report::RunRecord;
-use pp_report::laws::whole_journals_are_audited;
-use pp_settings::Settings;
+use pp_outset::Outset;
+use pp_pool::Book;
+use pp_settings::{Layout, Settings};
+use pp_vault::Hands;
 use std::alloc::Global;
-use std::marker::Brand;
-use std::sync::Wait;
-use std::sync::atomic::AtomicU64;
-use std::thread::Threads;
+use std::marker::Model;
 
-/// A pool that lives as long as one run.
-pub struct Pool;
+/// A pool between two runs: no plan waits or runs, and no flush is in flight. What it has cached, ARC's lists and target, which
+/// pages are dirty, and every known mark are there for the next run ([`Pool::run`]).
+///
+/// Contracts see it as the record `Rested`: its settings, the bytes of a page, what its next life begins with, and the
+/// page number from which the next run's first flush is sought.
+///
+/// The compiler refuses code that lets it fall: its dirty pages are nowhere else. [`Pool::close`] gives it up.
+pub struct Pool {
+    pub(crate) book: Book,
+    pub(crate) hands: Hands,
+    pub(crate) layout: Layout,
+    pub(crate) page_bytes: u32,
+    // The page number from which the next run's first flush is sought: where the flusher of the run before has come.
+    pub(crate) from: u32,
+}
 
-impl Pool {
-    /// Runs the plans on threads: one for each worker of the settings, and one for the flusher. Answers what was done, and
-    /// the devices in their order.
-    ///
-    /// The devices are ends of one device, one for each worker in order, and the last for the flusher; `works` has one
-    /// [`Work`] for each worker. The plans are taken in their order, each by a worker that is idle. The flusher writes back
-    /// meanwhile, and goes on when all are done while a page is newer than the device's and a flush is left.
-    ///
-    /// What a run leaves is accepted: the verdict of [`audit`](pp_report::audit) on the text of the events, as
-    /// [`packed_journal_text`](pp_report::packed_journal_text) writes it, is their number.
-    ///
-    /// # Errors
-    ///
-    /// [`RunError::Refused`] with the refusal of the first plan that isn't taken in; nothing is run then. After the
-    /// threads are joined, in this order, the least worker first: [`RunError::NoThread`], [`RunError::OutOfMemory`] where
-    /// every worker stopped for it and something is left, [`RunError::Broken`], [`RunError::Mismatch`]. The flusher's
-    /// number is that of the workers. Memory may run out for the run itself, too. On an error the devices, the works and
-    /// the plans are let go.
-    pub fn run<D: Device + Drop + Send, W: Work + Drop + Send, R: Threads + Wait + Sync>(
-        rt: &R,
-        alloc: Global,
-        settings: &Settings,
-        plans: Vec<Accepted>,
-        devices: Vec<D>,
-        works: Vec<W>,
-    ) -> Result<(RunRecord, Vec<D>), RunError>
-        requires bounded { settings.now.span ≡ Bounded }
-        requires ends { vec_len devices ≡ settings.now.workers + 1 }
-        requires works { vec_len works ≡ settings.now.workers }
-        ensures journal { IfOk result (λ r. IsRun (kept_of settings.now) plans.items r.0) }
-        ensures devices { IfOk result (λ r. AllCalled D.calls D.failures settings.now.workers devices.items
-            r.0.events.items r.1.items) }
-        ensures audited { IfOk result (λ r. auditing settings.now plans.items (journal_words r.0.events.items)
-            ≡ Ok (length r.0.events.items)) }
-        ensures error { IfErr result (IsRunError (kept_of settings.now) plans.items) }
-        ensures verdict { IfErr result (IsAnswer D.calls D.failures (kept_of settings.now) plans.items devices.items) }
-    {
-        let finished = AtomicU64::new(0);
-        Pool::run_watched(rt, alloc, settings, plans, devices, works, &finished)
-    }
+impl Model for Pool {
+    ghost use Rattle.pp_run.specs.Rested.{Rested, rested_in, IsRested};
 
-    /// As [`Pool::run`], and adds 1 to `finished` as each plan ends, for a watcher in another thread. Counting takes no
-    /// lock and no memory. Where all plans end, as many were added as were given.
-    ///
-    /// # Errors
-    ///
-    /// Those of [`Pool::run`].
-    pub fn run_watched<D: Device + Drop + Send, W: Work + Drop + Send, R: Threads + Wait + Sync>(
-        rt: &R,
-        alloc: Global,
-        settings: &Settings,
-        plans: Vec<Accepted>,
-        devices: Vec<D>,
-        works: Vec<W>,
-        finished: &AtomicU64,
-    ) -> Result<(RunRecord, Vec<D>), RunError>
-        requires bounded { settings.now.span ≡ Bounded }
-        requires ends { vec_len devices ≡ settings.now.workers + 1 }
-        requires works { vec_len works ≡ settings.now.workers }
-        ensures journal { IfOk result (λ r. IsRun (kept_of settings.now) plans.items r.0) }
-        ensures devices { IfOk result (λ r. AllCalled D.calls D.failures settings.now.workers devices.items
-            r.0.events.items r.1.items) }
-        ensures audited { IfOk result (λ r. auditing settings.now plans.items (journal_words r.0.events.items)
-            ≡ Ok (length r.0.events.items)) }
-        ensures error { IfErr result (IsRunError (kept_of settings.now) plans.items) }
-        ensures verdict { IfErr result (IsAnswer D.calls D.failures (kept_of settings.now) plans.items devices.items) }
-    {
-        let pool = RestedPool::open(alloc, settings)?;
-        let looked = made_ready(alloc, pool, plans.as_slice());
-        let ready = match looked {
-            Ok(ready) => ready,
-            Err((error, pool)) => {
-                pool.close();
-                return Err(error);
-            }
-        };
-        let ran = live::<Brand, D, W, R>(rt, alloc, ready, plans, devices, works, finished);
-        match ran {
-            Ok((ended, _spare)) => {
-                ended.stalled.book.known();
-                let (record, devices) = ended.closed();
-                whole_journals_are_audited(&record.events);
-                Ok((record, devices))
-            }
-            Err((error, stalled)) => {
-                stalled.close();
-                Err(error)
-            }
-        }
-    }
+    ghost Value = { Rested };
+
+    ghost view = { λ p. rested_in p.book p.page_bytes p.from };
+
+    ghost invariant = { λ p. IsRested p.book p.hands p.layout p.page_bytes };
 }
 
 impl Pool {
-    /// As [`Pool::run`], over a pool that is kept from the run before, and gives it back beside the record: renewed, with all
-    /// that it has cached. So a page that one run read is a hit in the next.
-    ///
-    /// The record's events are the whole life's, true from the state in which the pool was handed over. There are as many devices
-    /// as the pool has workers, and one more; and as many works as workers. The devices are over what the run before left.
-    ///
-    /// What the runs over one pool leave is accepted: the journals of all of them are audited together by
-    /// [`audit_lives`](pp_report::audit_lives). [`lives_are_audited`](crate::laws::lives_are_audited) tells so from the clauses
-    /// `life`, `over` and `pool` of each run.
+    /// A pool with these settings, whose lives are bounded ([`Settings::see_bounded`]), in which nothing was done yet. It gets
+    /// all memory that its vault ever needs, and room in the journal for twice the flushes.
     ///
     /// # Errors
     ///
-    /// Those of [`Pool::run`], in its order, and with each what is left: a pool's dirty pages are nowhere else.
-    ///
-    /// Before anything is done, the refusal of the first plan that isn't taken in; [`RunError::OutOfMemory`] where there is none
-    /// for the journals or the threads' handles; and [`RunError::Broken`] with the flusher's number where a mark has come to 2^63.
-    /// Then all that was handed over comes back as it was ([`Unrun::Unbegun`]). Behind that the run was begun, and is left as it
-    /// stopped ([`Unrun::Stalled`]): its plans are submitted, and what is left of it can be done by one thread. Where a run came to
-    /// its end, [`RunError::Broken`] with the flusher's number where a mark has come to 2^63 or a token isn't back in its place, so
-    /// that the pool isn't renewed.
-    pub fn run_on<D: Device + Drop + Send, W: Work + Drop + Send, R: Threads + Wait + Sync>(
-        rt: &R,
-        alloc: Global,
-        pool: RestedPool,
-        plans: Vec<Accepted>,
-        devices: Vec<D>,
-        works: Vec<W>,
-    ) -> Result<(RunRecord, RestedPool, Vec<D>), (RunError, Unrun<D, W>)>
-        requires ends { vec_len devices ≡ pool.settings.workers + 1 }
-        requires works { vec_len works ≡ pool.settings.workers }
-        ensures journal { IfOk result (λ r. IsRunFrom (opening_of pool) plans.items r.0) }
-        ensures life { IfOk result (λ r. IsLife (opening_of pool)
-            (record { plans = plans.items; journal = r.0.events.items })) }
-        ensures over { IfOk result (λ r. IsOver plans.items (replay plans.items (opening_of pool) r.0.events.items)) }
-        ensures pool { IfOk result (λ r. ComesBack pool plans.items r.0.events.items r.1) }
-        ensures devices { IfOk result (λ r. AllCalled D.calls D.failures pool.settings.workers devices.items
-            r.0.events.items r.2.items) }
-        ensures error { IfErr result (λ e. IsRunErrorFrom (opening_of pool) plans.items e.0) }
-        ensures verdict { IfErr result (λ e.
-            IsAnswerFrom D.calls D.failures (opening_of pool) plans.items devices.items e.0
-            ⊎ IsUnrenewedIn (opening_of pool) plans.items e.0 e.1) }
-        ensures left { IfErr result (λ e. IsLeftOf pool plans.items devices.items works.items e.0 e.1) }
+    /// [`RunError::OutOfMemory`] where that memory can't be had.
+    pub fn open(alloc: Global, settings: &Settings) -> Result<Pool, RunError>
+        requires { settings.now.span ≡ Bounded }
+        ensures settings { IfOk result (λ pool. pool.settings ≡ kept_of settings.now) }
+        ensures page_bytes { IfOk result (λ pool. pool.page_bytes ≡ settings.now.page_bytes) }
+        ensures outset { IfOk result (λ pool. pool.began ≡ new_outset (kept_of settings.now)) }
+        ensures from { IfOk result (λ pool. pool.from ≡ 0) }
+        ensures error { IfErr result (λ e. e ≡ run_errors.OutOfMemory) }
     {
-        let finished = AtomicU64::new(0);
-        Pool::run_on_watched(rt, alloc, pool, plans, devices, works, &finished)
+        let (book, hands) = Book::new(alloc, settings)?;
+        let pool = Pool {
+            book,
+            hands,
+            layout: settings.layout(),
+            page_bytes: settings.page_bytes(),
+            from: 0,
+        };
+        Ok(pool)
     }
 
-    /// As [`Pool::run_on`], and adds 1 to `finished` as each plan ends, as [`Pool::run_watched`] does.
-    ///
-    /// # Errors
-    ///
-    /// Those of [`Pool::run_on`].
-    pub fn run_on_watched<D: Device + Drop + Send, W: Work + Drop + Send, R: Threads + Wait + Sync>(
-        rt: &R,
-        alloc: Global,
-        pool: RestedPool,
-        plans: Vec<Accepted>,
-        devices: Vec<D>,
-        works: Vec<W>,
-        finished: &AtomicU64,
-    ) -> Result<(RunRecord, RestedPool, Vec<D>), (RunError, Unrun<D, W>)>
-        requires ends { vec_len devices ≡ pool.settings.workers + 1 }
-        requires works { vec_len works ≡ pool.settings.workers }
-        ensures journal { IfOk result (λ r. IsRunFrom (opening_of pool) plans.items r.0) }
-        ensures life { IfOk result (λ r. IsLife (opening_of pool)
-            (record { plans = plans.items; journal = r.0.events.items })) }
-        ensures over { IfOk result (λ r. IsOver plans.items (replay plans.items (opening_of pool) r.0.events.items)) }
-        ensures pool { IfOk result (λ r. ComesBack pool plans.items r.0.events.items r.1) }
-        ensures devices { IfOk result (λ r. AllCalled D.calls D.failures pool.settings.workers devices.items
-            r.0.events.items r.2.items) }
-        ensures error { IfErr result (λ e. IsRunErrorFrom (opening_of pool) plans.items e.0) }
-        ensures verdict { IfErr result (λ e.
-            IsAnswerFrom D.calls D.failures (opening_of pool) plans.items devices.items e.0
-            ⊎ IsUnrenewedIn (opening_of pool) plans.items e.0 e.1) }
-        ensures left { IfErr result (λ e. IsLeftOf pool plans.items devices.items works.items e.0 e.1) }
+    /// Does nothing. It tells that the opening state of the pool's next life can be reached, and that its lives are bounded.
+    pub fn known(&self)
+        ensures opens { IsReached (opening_of self.now) }
+        ensures bounded { self.now.settings.span ≡ Bounded }
     {
-        let looked = made_ready(alloc, pool, plans.as_slice());
-        let ready = match looked {
-            Ok(ready) => ready,
-            Err((error, pool)) => {
-                let unbegun = Unbegun {
-                    pool,
-                    plans,
-                    devices,
-                    works,
-                };
-                return Err((error, Unrun::Unbegun(unbegun)));
-            }
-        };
-        let ran = live::<Brand, D, W, R>(rt, alloc, ready, plans, devices, works, finished);
-        match ran {
-            Ok((ended, spare)) => {
-                ended.stalled.book.known();
-                let renewed = ended.renewed(spare);
-                match renewed {
-                    Ok(kept) => Ok(kept),
-                    Err((error, stalled)) => Err((error, Unrun::Stalled(stalled))),
-                }
-            }
-            Err((error, stalled)) => Err((error, Unrun::Stalled(stalled))),
-        }
+        self.book.known();
+    }
+
+    /// How many workers it has: so many works, and one more device, are wanted for a run.
+    pub fn workers(&self) -> u32
+        ensures { result ≡ self.now.settings.workers }
+    {
+        self.book.workers()
+    }
+
+    /// How many flushes may begin in its next life.
+    pub fn flushes(&self) -> u32
+        ensures { result ≡ self.now.settings.flushes }
+    {
+        self.book.flushes()
+    }
+
+    /// How many pages are newer than the device's.
+    pub fn dirty(&self) -> u32
+        ensures { result ≡ dirty_pages (opening_of self.now) }
+    {
+        self.book.dirty()
+    }
+
+    /// What its next life begins with besides its settings.
+    pub fn began(&self) -> &Outset
+        ensures { result.now ≡ self.now.began }
+    {
+        self.book.began()
+    }
+
+    /// Gives the pool up, and answers how many pages were newer than the device's: what was changed in them is lost.
+    pub fn close(self) -> u32
+        ensures { result ≡ dirty_pages (opening_of self) }
+    {
+        let Pool {
+            book,
+            hands,
+            layout: _,
+            page_bytes: _,
+            from: _,
+        } = self;
+        let dirty = book.dirty();
+        book.close(hands);
+        dirty
     }
 }

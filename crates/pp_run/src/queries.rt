@@ -18,7 +18,6 @@ use crate::error::RunError;
 use crate::life::{live, ready_with};
 use crate::planning::need_of_queries;
 use crate::pool::Pool;
-use crate::rested::RestedPool;
 use crate::stalled::Stalled;
 use pp_cert::Accepted;
 use pp_device::Device;
@@ -48,7 +47,7 @@ pub enum UnrunQueries<D, W> {
 
 /// A run of queries that wasn't begun: all that was handed over for it, as it was.
 pub struct UnbegunQueries<D, W> {
-    pub pool: RestedPool,
+    pub pool: Pool,
     pub plans: Vec<(Accepted, W)>,
     pub devices: Vec<D>,
 }
@@ -228,7 +227,7 @@ impl<W: Drop> Rooms<W> {
 }
 
 impl Pool {
-    /// As [`Pool::run_on`], where each plan comes with a work of its own, whichever worker takes it. The works come back in the
+    /// As [`Pool::run`], where each plan comes with a work of its own, whichever worker takes it. The works come back in the
     /// order of the plans, each with how its plan ended.
     ///
     /// A worker calls the work of the plan that it has: first [`Work::begins`], last [`Work::ended`]. There are as many devices as the
@@ -236,42 +235,42 @@ impl Pool {
     ///
     /// # Errors
     ///
-    /// Those of [`Pool::run_on`]. Memory that this call wants besides is got once the plans are looked at, and before anything is done.
+    /// Those of [`Pool::run`]. Memory that this call wants besides is got once the plans are looked at, and before anything is done.
     /// Where nothing was done, all that was handed over comes back as it was ([`UnrunQueries::Unbegun`]). Behind that the works come
     /// back beside the pool, as they are ([`UnrunQueries::Stalled`]); one whose plan hasn't ended has no end.
     pub fn run_queries<D: Device + Drop + Send, W: Work + Drop + Send, R: Threads + Wait + Sync>(
+        self,
         rt: &R,
         alloc: Global,
-        pool: RestedPool,
         plans: Vec<(Accepted, W)>,
         devices: Vec<D>,
-    ) -> Result<(RunRecord, RestedPool, Vec<D>, Vec<Query<W>>), (RunError, UnrunQueries<D, W>)>
-        requires ends { vec_len devices ≡ pool.settings.workers + 1 }
-        ensures journal { IfOk result (λ r. IsRunFrom (opening_of pool) (plans_in plans.items) r.0) }
-        ensures life { IfOk result (λ r. IsLife (opening_of pool)
+    ) -> Result<(RunRecord, Pool, Vec<D>, Vec<Query<W>>), (RunError, UnrunQueries<D, W>)>
+        requires ends { vec_len devices ≡ self.settings.workers + 1 }
+        ensures journal { IfOk result (λ r. IsRunFrom (opening_of self) (plans_in plans.items) r.0) }
+        ensures life { IfOk result (λ r. IsLife (opening_of self)
             (record { plans = plans_in plans.items; journal = r.0.events.items })) }
         ensures over { IfOk result (λ r. IsOver (plans_in plans.items)
-            (replay (plans_in plans.items) (opening_of pool) r.0.events.items)) }
-        ensures pool { IfOk result (λ r. ComesBack pool (plans_in plans.items) r.0.events.items r.1) }
-        ensures devices { IfOk result (λ r. AllCalled D.calls D.failures pool.settings.workers devices.items
+            (replay (plans_in plans.items) (opening_of self) r.0.events.items)) }
+        ensures pool { IfOk result (λ r. ComesBack self (plans_in plans.items) r.0.events.items r.1) }
+        ensures devices { IfOk result (λ r. AllCalled D.calls D.failures self.settings.workers devices.items
             r.0.events.items r.2.items) }
         ensures queries { IfOk result (λ r. vec_len r.3 ≡ vec_len plans) }
-        ensures error { IfErr result (λ e. IsRunErrorFrom (opening_of pool) (plans_in plans.items) e.0) }
+        ensures error { IfErr result (λ e. IsRunErrorFrom (opening_of self) (plans_in plans.items) e.0) }
         ensures verdict { IfErr result (λ e.
-            IsAnswerFrom D.calls D.failures (opening_of pool) (plans_in plans.items) devices.items e.0
-            ⊎ IsUnrenewedQueries (opening_of pool) (plans_in plans.items) e.0 e.1) }
-        ensures left { IfErr result (λ e. IsLeftOfQueries pool plans.items devices.items e.0 e.1) }
+            IsAnswerFrom D.calls D.failures (opening_of self) (plans_in plans.items) devices.items e.0
+            ⊎ IsUnrenewedQueries (opening_of self) (plans_in plans.items) e.0 e.1) }
+        ensures left { IfErr result (λ e. IsLeftOfQueries self plans.items devices.items e.0 e.1) }
     {
-        let looked = looked_at(alloc, &pool, plans.as_slice());
+        let looked = looked_at(alloc, &self, plans.as_slice());
         let (room, rooms) = match looked {
             Ok(looked) => looked,
-            Err(error) => return Err((error, unbegun(pool, plans, devices))),
+            Err(error) => return Err((error, unbegun(self, plans, devices))),
         };
-        let workers = pool.workers();
+        let workers = self.workers();
         let Ok(takers) = Vec::with_capacity(alloc, workers as usize) else {
-            return Err((RunError::OutOfMemory, unbegun(pool, plans, devices)));
+            return Err((RunError::OutOfMemory, unbegun(self, plans, devices)));
         };
-        let readied = ready_with(alloc, pool, room);
+        let readied = ready_with(alloc, self, room);
         let ready = match readied {
             Ok(ready) => ready,
             Err((error, pool)) => return Err((error, unbegun(pool, plans, devices))),
@@ -310,7 +309,7 @@ impl Pool {
 /// The refusal of the first plan that isn't taken in, or [`RunError::OutOfMemory`].
 fn looked_at<W: Drop>(
     alloc: Global,
-    pool: &RestedPool,
+    pool: &Pool,
     plans: &[(Accepted, W)],
 ) -> Result<(usize, Rooms<W>), RunError>
     ensures taken { OnOk result (IsOk (after_submits (opening_of pool.now) (plans_in plans.now))) }
@@ -331,7 +330,7 @@ fn looked_at<W: Drop>(
 }
 
 /// A run that wasn't begun.
-fn unbegun<D, W>(pool: RestedPool, plans: Vec<(Accepted, W)>, devices: Vec<D>) -> UnrunQueries<D, W>
+fn unbegun<D, W>(pool: Pool, plans: Vec<(Accepted, W)>, devices: Vec<D>) -> UnrunQueries<D, W>
     ensures { result ≡ unrun_queries.Unbegun (record { pool = pool; plans = plans; devices = devices }) }
 {
     UnrunQueries::Unbegun(UnbegunQueries {

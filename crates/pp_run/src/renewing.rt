@@ -15,7 +15,7 @@ ghost use Rattle.pp_run.specs.Rested.{opening_of, AreIdle, KeptFor};
 
 use crate::error::RunError;
 use crate::life::Ended;
-use crate::rested::RestedPool;
+use crate::pool::Pool;
 use crate::stalled::Stalled;
 use pp_pool::{BookRenewError, Journal};
 use pp_report::RunRecord;
@@ -31,7 +31,7 @@ impl<D: Drop> Ended<D> {
     pub(crate) fn renewed(
         self,
         empty: Journal,
-    ) -> Result<(RunRecord, RestedPool, Vec<D>), (RunError, Stalled)>
+    ) -> Result<(RunRecord, Pool, Vec<D>), (RunError, Stalled)>
         requires room { HasLifeRoom self.stalled.book empty.capacity }
         ensures events { IfOk result (λ r. r.0.events.items ≡ self.stalled.book.journal) }
         ensures plans { IfOk result (λ r. r.0.plans ≡ self.plans) }

@@ -17,8 +17,8 @@ ghost use Rattle.pp_run.specs.Rested.{opening_of, KeptFor};
 
 use crate::counting::sought_from;
 use crate::error::RunError;
+use crate::pool::Pool;
 use crate::renewing::{are_idle, put_back, told};
-use crate::rested::RestedPool;
 use pp_device::Device;
 use pp_pool::{Book, Flusher, Journal, OwnSite, Turned, Work, Worker};
 use pp_settings::Layout;
@@ -190,7 +190,7 @@ impl Stalled {
     /// [`RunError::OutOfMemory`] where there is none for the next life's journal. [`RunError::Broken`] with the flusher's number
     /// where a plan waits or runs, a flush is in flight, a token isn't back in its place, or a mark has come to 2^63. The pool comes
     /// back as it is.
-    pub fn renew(self, alloc: Global) -> Result<(Journal, RestedPool), (RunError, Stalled)>
+    pub fn renew(self, alloc: Global) -> Result<(Journal, Pool), (RunError, Stalled)>
         ensures journal { IfOk result (λ r. r.0.items ≡ self.book.journal) }
         ensures settings { IfOk result (λ r. r.1.settings ≡ settings_of self.book) }
         ensures page_bytes { IfOk result (λ r. r.1.page_bytes ≡ self.book.vault.page_bytes) }
@@ -209,10 +209,7 @@ impl Stalled {
     }
 
     /// Renews the pool. The empty journal becomes that of the next life, whose flusher begins where this one's has come.
-    pub(crate) fn renewed(
-        self,
-        empty: Journal,
-    ) -> Result<(Journal, RestedPool), (RunError, Stalled)>
+    pub(crate) fn renewed(self, empty: Journal) -> Result<(Journal, Pool), (RunError, Stalled)>
         requires room { HasLifeRoom self.book empty.capacity }
         ensures journal { IfOk result (λ r. r.0.items ≡ self.book.journal) }
         ensures settings { IfOk result (λ r. r.1.settings ≡ settings_of self.book) }
@@ -248,7 +245,7 @@ impl Stalled {
         }
         match book.renew(empty) {
             Ok(events) => {
-                let pool = RestedPool {
+                let pool = Pool {
                     book,
                     hands,
                     layout,

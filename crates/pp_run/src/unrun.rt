@@ -3,7 +3,7 @@
 ghost use Rattle.std.specs.Prelude.{◌≡◌};
 ghost use Rattle.pp_run.specs.Unrun.{dirty_left};
 
-use crate::rested::RestedPool;
+use crate::pool::Pool;
 use crate::stalled::Stalled;
 use pp_cert::Accepted;
 
@@ -17,7 +17,7 @@ pub enum Unrun<D, W> {
 
 /// A run that wasn't begun: all that was handed over for it, as it was.
 pub struct Unbegun<D, W> {
-    pub pool: RestedPool,
+    pub pool: Pool,
     pub plans: Vec<Accepted>,
     pub devices: Vec<D>,
     pub works: Vec<W>,

@@ -17,7 +17,7 @@ use pp_device::Device;
 use pp_judge::Workload;
 use pp_pool::Work;
 use pp_report::RunRecord;
-use pp_run::{Pool, RunError};
+use pp_run::{RunError, run_once};
 use pp_settings::Settings;
 use pp_shared::SharedDevice;
 use std::alloc::{AllocError, Global};
@@ -25,6 +25,7 @@ use std::fs::File;
 use std::io::Write;
 use std::rt::Files;
 use std::sync::Wait;
+use std::sync::atomic::AtomicU64;
 use std::thread;
 use std::thread::Threads;
 use std::time::Clock;
@@ -37,7 +38,7 @@ use std::time::Clock;
 ///
 /// # Errors
 ///
-/// `Unopened` where the file can't be opened for reading and writing; then, as [`Pool::run`] has them, `Stopped` and
+/// `Unopened` where the file can't be opened for reading and writing; then, as [`run_once`] has them, `Stopped` and
 /// `OutOfMemory`, which may come before.
 pub fn run<
     R: Files<File = File> + AllocGlobal + Threads + Wait + Clock + Sync + Copy + Send + Drop,
@@ -92,11 +93,13 @@ fn run_works<
     if let Some(terminal) = terminal {
         return Ok(run_shown(rt, alloc, settings, plans, ends, works, terminal)?);
     }
-    let (done, _ends) = Pool::run(rt, alloc, settings, plans, ends, works)?;
+    // (nobody looks at it)
+    let finished = AtomicU64::new(0);
+    let (done, _ends) = run_once(rt, alloc, settings, plans, ends, works, &finished)?;
     Ok(done)
 }
 
-/// As [`Pool::run`], and shows on the terminal how far the run is.
+/// As [`run_once`], and shows on the terminal how far the run is.
 fn run_shown<
     R: Threads + Wait + Clock + Sync,
     D: Device + Drop + Send,
@@ -130,7 +133,7 @@ fn run_shown<
             ensures journal { IfOk result (λ done. IsRun (kept_of settings.entry.now) plans.items done) }
             ensures error { IfErr result (IsRunError (kept_of settings.entry.now) plans.items) }
         {
-            let ran = Pool::run_watched(rt, alloc, settings, plans, ends, works, &progress.plans);
+            let ran = run_once(rt, alloc, settings, plans, ends, works, &progress.plans);
             completion.signal(rt);
             let (done, _ends) = ran?;
             Ok(done)

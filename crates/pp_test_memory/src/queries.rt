@@ -9,7 +9,7 @@ use crate::runs::{Lot, answer_of, is_ended, lot_of};
 use pp_cert::Accepted;
 use pp_pool::End;
 use pp_report::RunRecord;
-use pp_run::{Pool, Query, RestedPool, RunError, StalledQueries, UnbegunQueries, UnrunQueries};
+use pp_run::{Pool, Query, RunError, StalledQueries, UnbegunQueries, UnrunQueries};
 use pp_run_command::Rounds;
 use pp_settings::Settings;
 use pp_shared::SharedDevice;
@@ -77,8 +77,8 @@ fn life<R: Files<File = File> + AllocGlobal + Threads + Wait + Sync + Copy + Sen
     requires ends { vec_len ends ≡ settings.now.workers + 1 }
 {
     let queries = with_works(rt.alloc(), plans)?;
-    let pool = RestedPool::open(rt.alloc(), settings)?;
-    let (error, goes_on) = match Pool::run_queries(rt, rt.alloc(), pool, queries, ends) {
+    let pool = Pool::open(rt.alloc(), settings)?;
+    let (error, goes_on) = match pool.run_queries(rt, rt.alloc(), queries, ends) {
         Ok((done, pool, _ends, queries)) => {
             let dirty = pool.close();
             if are_done(&queries) {
@@ -125,7 +125,7 @@ fn runs_again<R: Files<File = File> + AllocGlobal + Threads + Wait + Sync + Copy
         pool.close();
         return false;
     }
-    match Pool::run_queries(rt, rt.alloc(), pool, plans, devices) {
+    match pool.run_queries(rt, rt.alloc(), plans, devices) {
         Ok((done, pool, _ends, queries)) => pool.close() == done.dirty && are_done(&queries),
         Err((_error, left)) => {
             left.close();

@@ -7,7 +7,7 @@ use crate::answer::Answer;
 use crate::printing::{begin, end};
 use pp_cert::Accepted;
 use pp_report::RunRecord;
-use pp_run::{Pool, RestedPool, RunError, Stalled, Unbegun, Unrun};
+use pp_run::{Pool, RunError, Stalled, Unbegun, Unrun, run_once};
 use pp_run_command::Rounds;
 use pp_settings::Settings;
 use pp_shared::SharedDevice;
@@ -17,13 +17,14 @@ use std::alloc::{AllocError, Global};
 use std::fs::File;
 use std::rt::Files;
 use std::sync::Wait;
+use std::sync::atomic::AtomicU64;
 use std::thread::Threads;
 
 /// Does the case of this call.
 pub fn case<
     R: Files<File = File> + AllocGlobal + Print + Threads + Wait + Sync + Copy + Send + Drop,
 >(rt: &R, call: &str) -> anyhow::Result<()> {
-    let is_kept = call == "Pool::run_on";
+    let is_kept = call == "Pool::run";
     let settings = Settings::from_text(rt.alloc(), SETTINGS)?;
     for _round in 0..2 {
         let lot = lot_of(rt, &settings)?;
@@ -100,7 +101,8 @@ fn ran<R: Files<File = File> + AllocGlobal + Threads + Wait + Sync + Copy + Send
     let ran = if is_kept {
         life(rt, settings, plans, ends, works, spare, other)
     } else {
-        match Pool::run(rt, rt.alloc(), settings, plans, ends, works) {
+        let finished = AtomicU64::new(0);
+        match run_once(rt, rt.alloc(), settings, plans, ends, works, &finished) {
             Ok((done, _ends)) => Ok((done, 0)),
             Err(error) => Err(error),
         }
@@ -140,8 +142,9 @@ fn life<R: Files<File = File> + AllocGlobal + Threads + Wait + Sync + Copy + Sen
     requires ends { vec_len ends ≡ settings.now.workers + 1 }
     requires works { vec_len works ≡ settings.now.workers }
 {
-    let pool = RestedPool::open(rt.alloc(), settings)?;
-    let (error, goes_on) = match Pool::run_on(rt, rt.alloc(), pool, plans, ends, works) {
+    let pool = Pool::open(rt.alloc(), settings)?;
+    let finished = AtomicU64::new(0);
+    let (error, goes_on) = match pool.run(rt, rt.alloc(), plans, ends, works, &finished) {
         Ok((done, pool, _ends)) => return Ok((done, pool.close())),
         Err((error, Unrun::Unbegun(unbegun))) => (error, runs_again(rt, unbegun)),
         Err((error, Unrun::Stalled(stalled))) => (error, is_ended(rt, stalled, spare, other)),
@@ -170,7 +173,8 @@ fn runs_again<R: Files<File = File> + AllocGlobal + Threads + Wait + Sync + Copy
         pool.close();
         return false;
     }
-    match Pool::run_on(rt, rt.alloc(), pool, plans, devices, works) {
+    let finished = AtomicU64::new(0);
+    match pool.run(rt, rt.alloc(), plans, devices, works, &finished) {
         Ok((done, pool, _ends)) => pool.close() == done.dirty && done.plans == 3,
         Err((_error, left)) => {
             left.close();

@@ -79,13 +79,9 @@ impl Board {
         }
     }
 
-    /// Where the run counts the plans that end, if the case wants that.
-    pub fn counter(&self) -> Option<&AtomicU64> {
-        if self.case.is_watched {
-            Some(&self.finished)
-        } else {
-            None
-        }
+    /// Where the run counts the plans that end.
+    pub fn counter(&self) -> &AtomicU64 {
+        &self.finished
     }
 
     /// How many of a thing were told.

@@ -165,8 +165,6 @@ pub struct Case {
     /// The page whose readings are counted; [`ANY`] for all.
     pub counted: u32,
     pub faults: Faults,
-    /// Whether the plans that end are counted while the run goes on.
-    pub is_watched: bool,
     /// Whether each plan changes one page, so that as many have ended at each call as pages were changed before.
     pub is_in_step: bool,
     /// How many of these things there are afterwards.
@@ -199,7 +197,6 @@ pub const SAMPLE: Case = Case {
     reach: usize::MAX,
     counted: ANY,
     faults: Faults::None,
-    is_watched: true,
     is_in_step: false,
     counts: &[],
 };

@@ -13,7 +13,7 @@ use pp_device::Device;
 use pp_model::{Event, Move, Reply, SubmitError};
 use pp_pool::Work;
 use pp_report::{Journal, RENEWAL_LINE, audit_lives, packed_journal_text};
-use pp_run::{Pool, RestedPool, RunError, RunRecord, Unbegun, Unrun};
+use pp_run::{Pool, RunError, RunRecord, Unbegun, Unrun};
 use pp_settings::Settings;
 use pp_shared::SharedDevice;
 use pp_test_plain::accepted;
@@ -21,6 +21,7 @@ use pp_test_plain::samples::{GAPS, NOTHING, WRITE};
 use std::alloc::Global;
 use std::process::Abort;
 use std::sync::Wait;
+use std::sync::atomic::{AtomicU64, Ordering};
 use std::test::*;
 use std::thread::Threads;
 use std::time::Clock;
@@ -29,16 +30,20 @@ use std::time::Clock;
 fn pool_run<D: Device + Drop + Send, W: Work + Drop + Send, R: Abort + Threads + Wait + Sync>(
     rt: &R,
     alloc: Global,
-    pool: RestedPool,
+    pool: Pool,
     plans: Vec<Accepted>,
     devices: Vec<D>,
     works: Vec<W>,
-) -> (RunRecord, RestedPool, Vec<D>)
+) -> (RunRecord, Pool, Vec<D>)
     requires ends { vec_len devices ≡ pool.settings.workers + 1 }
     requires works { vec_len works ≡ pool.settings.workers }
 {
-    match Pool::run_on(rt, alloc, pool, plans, devices, works) {
-        Ok(ran) => ran,
+    let finished = AtomicU64::new(0);
+    match pool.run(rt, alloc, plans, devices, works, &finished) {
+        Ok(ran) => {
+            assert!(rt; finished.load(Ordering::SeqCst) == u64::from(ran.0.plans));
+            ran
+        }
         Err((error, _left)) => panic!(rt; "no run: {error}"),
     }
 }
@@ -47,11 +52,11 @@ fn pool_run<D: Device + Drop + Send, W: Work + Drop + Send, R: Abort + Threads +
 fn run_well<D: Device + Drop + Send, W: Work + Drop + Send, R: Abort + Threads + Wait + Sync>(
     rt: &R,
     alloc: Global,
-    pool: RestedPool,
+    pool: Pool,
     plans: Vec<Accepted>,
     devices: Vec<D>,
     works: Vec<W>,
-) -> (RunRecord, RestedPool, Vec<D>) {
+) -> (RunRecord, Pool, Vec<D>) {
     let workers = pool.workers() as usize;
     assert!(rt; workers < 64);
     assert!(rt; devices.len() == workers + 1);
@@ -94,10 +99,10 @@ fn live_on<R: AllocGlobal + Abort + Threads + Wait + Clock + Copy + Drop + Sync 
 }
 
 /// A new pool.
-fn opened(rt: &impl Abort, alloc: Global, settings: &Settings) -> RestedPool
+fn opened(rt: &impl Abort, alloc: Global, settings: &Settings) -> Pool
     requires { settings.now.span ≡ Bounded }
 {
-    match RestedPool::open(alloc, settings) {
+    match Pool::open(alloc, settings) {
         Ok(pool) => pool,
         Err(_) => panic!(rt; "no memory"),
     }
@@ -292,7 +297,7 @@ fn comes_back<D: Device + Drop + Send, W: Work + Drop + Send, R: Abort + Threads
 fn not_run<D: Device + Drop + Send, W: Work + Drop + Send, R: Abort + Threads + Wait + Sync>(
     rt: &R,
     alloc: Global,
-    pool: RestedPool,
+    pool: Pool,
     plans: Vec<Accepted>,
     devices: Vec<D>,
     works: Vec<W>,
@@ -300,7 +305,8 @@ fn not_run<D: Device + Drop + Send, W: Work + Drop + Send, R: Abort + Threads + 
     requires ends { vec_len devices ≡ pool.settings.workers + 1 }
     requires works { vec_len works ≡ pool.settings.workers }
 {
-    match Pool::run_on(rt, alloc, pool, plans, devices, works) {
+    let finished = AtomicU64::new(0);
+    match pool.run(rt, alloc, plans, devices, works, &finished) {
         Ok(_ran) => panic!(rt; "run"),
         Err(not) => not,
     }

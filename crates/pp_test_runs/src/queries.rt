@@ -6,7 +6,7 @@ use pp_cert::Accepted;
 use pp_device::Device;
 use pp_pool::{End, Work};
 use pp_report::RunRecord;
-use pp_run::{Pool, Query, RestedPool, RunError, UnbegunQueries, UnrunQueries};
+use pp_run::{Pool, Query, RunError, UnbegunQueries, UnrunQueries};
 use pp_settings::Settings;
 use pp_test_plain::accepted;
 use pp_test_plain::samples::WRITE;
@@ -99,14 +99,14 @@ fn asked(rt: &impl Abort, alloc: Global, own: &Settings, last: &Settings) -> Vec
 fn run<D: Device + Drop + Send, R: Abort + Threads + Wait + Sync>(
     rt: &R,
     alloc: Global,
-    pool: RestedPool,
+    pool: Pool,
     asked: Vec<(Accepted, Own)>,
     devices: Vec<D>,
-) -> Result<(RunRecord, RestedPool, Vec<D>, Vec<Query<Own>>), (RunError, UnrunQueries<D, Own>)> {
+) -> Result<(RunRecord, Pool, Vec<D>, Vec<Query<Own>>), (RunError, UnrunQueries<D, Own>)> {
     let workers = pool.workers() as usize;
     assert!(rt; workers < 64);
     assert!(rt; devices.len() == workers + 1);
-    Pool::run_queries(rt, alloc, pool, asked, devices)
+    pool.run_queries(rt, alloc, asked, devices)
 }
 
 /// Each work is called for its own plan and no other, and comes back in the place of that plan.
@@ -114,7 +114,7 @@ fn run<D: Device + Drop + Send, R: Abort + Threads + Wait + Sync>(
 fn each_plan_has_its_own_work(rt: HostRuntime) {
     let alloc = rt.alloc();
     let own = settings_of(&rt, alloc, &EACH);
-    let Ok(pool) = RestedPool::open(alloc, &own) else {
+    let Ok(pool) = Pool::open(alloc, &own) else {
         panic!(rt; "no memory");
     };
     let asked = asked(&rt, alloc, &own, &own);
@@ -159,7 +159,7 @@ fn plans_that_are_refused_come_back_with_their_works(rt: HostRuntime) {
         settings_of(&rt, alloc, &EACH),
         settings_of(&rt, alloc, &OTHERS),
     );
-    let Ok(pool) = RestedPool::open(alloc, &own) else {
+    let Ok(pool) = Pool::open(alloc, &own) else {
         panic!(rt; "no memory");
     };
     let asked = asked(&rt, alloc, &own, &other);

@@ -26,7 +26,6 @@ static WRITES: Case = Case {
     workers: 1,
     flushes: 0,
     plans: &[WRITE],
-    is_watched: false,
     counts: &[(Thing::Dirty, 1), (Thing::Changed, 1)],
     ..SAMPLE
 };
@@ -45,7 +44,6 @@ fn a_run_ends_well(rt: HostRuntime) {
 static TURNS: Case = Case {
     name: "a_turn_does_its_work",
     plans: &[WRITE, READ, WRITE, READ, WRITE, READ],
-    is_watched: false,
     counts: &[
         (Thing::Dirty, 0),
         (Thing::Changed, 3),
@@ -66,7 +64,6 @@ static FLUSHED: Case = Case {
     name: "a_run_uses_its_devices",
     workers: 1,
     plans: &[WRITE],
-    is_watched: false,
     counts: &[(Thing::Dirty, 0), (Thing::Changed, 1), (Thing::Flushed, 1)],
     ..SAMPLE
 };
@@ -116,7 +113,6 @@ fn a_run_writes_its_file(rt: HostRuntime) -> Result<(), Fail> {
 static OVERLAP: Case = Case {
     name: "workers_really_overlap",
     plans: &[TOUCH, TOUCH],
-    is_watched: false,
     parts: &[
         Part {
             region: 0,
@@ -167,7 +163,6 @@ class = 1
     }],
     plans: &[TOUCH],
     rounds: 256,
-    is_watched: false,
     counts: &[
         (Thing::Dirty, 0),
         (Thing::Events, 1_281),
@@ -235,7 +230,6 @@ static ROWS: &[Case] = &[
     Case {
         name: "two_workers_touch_a_page",
         plans: &[TOUCH, TOUCH, TOUCH],
-        is_watched: false,
         counts: &[
             (Thing::Dirty, 0),
             (Thing::Events, 16),

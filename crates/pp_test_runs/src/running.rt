@@ -13,7 +13,7 @@ use pp_cert::Accepted;
 use pp_device::{Device, Failing, Trouble, image};
 use pp_pool::Work;
 use pp_report::{Journal, audit, packed_journal_text};
-use pp_run::{Pool, RunError, RunRecord};
+use pp_run::{RunError, RunRecord, run_once};
 use pp_settings::Settings;
 use pp_shared::SharedDevice;
 use pp_test_plain::accepted;
@@ -163,26 +163,6 @@ pub fn watch<R: Abort + Clock>(rt: &R, name: &str, over: &AtomicBool) {
     panic!(rt; "{name}: the run hangs");
 }
 
-/// A run, whose plans that end are counted where there is a counter.
-fn pool_run<D: Device + Drop + Send, W: Work + Drop + Send, R: Threads + Wait + Sync>(
-    rt: &R,
-    alloc: Global,
-    settings: &Settings,
-    plans: Vec<Accepted>,
-    devices: Vec<D>,
-    works: Vec<W>,
-    finished: Option<&AtomicU64>,
-) -> Result<(RunRecord, Vec<D>), RunError>
-    requires bounded { settings.now.span ≡ Bounded }
-    requires ends { vec_len devices ≡ settings.now.workers + 1 }
-    requires works { vec_len works ≡ settings.now.workers }
-{
-    match finished {
-        Some(finished) => Pool::run_watched(rt, alloc, settings, plans, devices, works, finished),
-        None => Pool::run(rt, alloc, settings, plans, devices, works),
-    }
-}
-
 /// Runs plans over devices, and is watched. The numbers of devices and works are tested first.
 fn run_over<
     D: Device + Drop + Send,
@@ -195,7 +175,7 @@ fn run_over<
     plans: Vec<Accepted>,
     devices: Vec<D>,
     works: Vec<W>,
-    finished: Option<&AtomicU64>,
+    finished: &AtomicU64,
 ) -> Result<(RunRecord, Vec<D>), RunError>
     requires { settings.now.span ≡ Bounded }
 {
@@ -213,7 +193,7 @@ fn run_over<
             requires ends { vec_len devices ≡ settings.now.workers + 1 }
             requires works { vec_len works ≡ settings.now.workers }
         {
-            let ran = pool_run(rt, alloc, settings, plans, devices, works, finished);
+            let ran = run_once(rt, alloc, settings, plans, devices, works, finished);
             over.store(true, Ordering::SeqCst);
             ran
         },
@@ -318,15 +298,13 @@ fn has_counts(rt: &impl Abort, board: &Board, record: &RunRecord) {
     same(rt, name, "plans", u64::from(record.plans), plans);
     same(rt, name, "waits in vain", board.number(Thing::InVain), 0);
     same(rt, name, "things amiss", board.number(Thing::Amiss), 0);
-    if case.is_watched {
-        same(
-            rt,
-            name,
-            "plans that ended",
-            board.number(Thing::Finished),
-            plans,
-        );
-    }
+    same(
+        rt,
+        name,
+        "plans that ended",
+        board.number(Thing::Finished),
+        plans,
+    );
     for counted in case.counts {
         let (thing, want) = *counted;
         same(rt, name, "count", number_of(board, record, thing), want);

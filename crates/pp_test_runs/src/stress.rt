@@ -32,7 +32,6 @@ static STRESS: &[Case] = &[
         rounds: 200,
         picks: Picks::Chance,
         faults: Faults::Tenths,
-        is_watched: false,
         counts: &[(Thing::Dirty, 0)],
         ..SAMPLE
     },

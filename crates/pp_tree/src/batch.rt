@@ -3,7 +3,7 @@
 use pp_cert::Accepted;
 use pp_device::Device;
 use pp_pool::Work;
-use pp_run::{Pool, Query, RestedPool};
+use pp_run::{Pool, Query};
 use pp_settings::Settings;
 use std::alloc::Global;
 use std::sync::Wait;
@@ -11,7 +11,7 @@ use std::thread::Threads;
 
 /// A pool between two batches, with its devices. It is closed where it is let go.
 pub struct Stand<D: Drop> {
-    pool: RestedPool,
+    pool: Pool,
     devices: Vec<D>,
 }
 
@@ -34,7 +34,7 @@ impl<D: Drop> Stand<D> {
     pub fn open(alloc: Global, settings: &Settings, devices: Vec<D>) -> anyhow::Result<Stand<D>> {
         settings.see_bounded()?;
         Ok(Stand {
-            pool: RestedPool::open(alloc, settings)?,
+            pool: Pool::open(alloc, settings)?,
             devices,
         })
     }
@@ -57,7 +57,7 @@ impl<D: Device + Drop + Send> Stand<D> {
             anyhow::bail!("there is no end for each worker and the flusher");
         }
         let Stand { pool, devices } = self;
-        match Pool::run_queries(rt, alloc, pool, asked, devices) {
+        match pool.run_queries(rt, alloc, asked, devices) {
             Ok((_record, pool, devices, queries)) => Ok((Stand { pool, devices }, queries)),
             Err((error, left)) => {
                 left.close();

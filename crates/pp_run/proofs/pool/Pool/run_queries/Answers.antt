@@ -12,7 +12,7 @@ use Rattle.pp_run.proofs.pool.Pool.run_queries.Goals as goal
 
 pub returns-in-Err-readied-clause-verdict : goal.returns-in-Err-readied-clause-verdict
 returns-in-Err-readied-clause-verdict g c =
-    let p = c.args.pool in
+    let p = c.args.self in
     let plans = plans_in c.args.plans.items in
     let error = c.in-Err-readied.error in
     let taken : IsOk (after_submits (opening_of p) plans)
@@ -22,7 +22,7 @@ returns-in-Err-readied-clause-verdict g c =
 
 pub returns-in-Err-readied-clause-left : goal.returns-in-Err-readied-clause-left
 returns-in-Err-readied-clause-left g c =
-    let p = c.args.pool in
+    let p = c.args.self in
     let plans = plans_in c.args.plans.items in
     let error = c.in-Err-readied.error in
     let taken : IsOk (after_submits (opening_of p) plans)
@@ -34,7 +34,7 @@ returns-in-Err-readied-clause-left g c =
 
 pub returns-in-Ok-renewed-clause-journal : goal.returns-in-Ok-renewed-clause-journal
 returns-in-Ok-renewed-clause-journal g c =
-    let p = c.args.pool in
+    let p = c.args.self in
     let plans = plans_in c.args.plans.items in
     let b = c.in-Ok-ran.ended.stalled.book in
     let dirty = c.in-Ok-ran.ended.dirty in
@@ -47,7 +47,7 @@ returns-in-Ok-renewed-clause-journal g c =
 
 pub returns-in-Ok-renewed-clause-over : goal.returns-in-Ok-renewed-clause-over
 returns-in-Ok-renewed-clause-over g c =
-    let p = c.args.pool in
+    let p = c.args.self in
     let plans = plans_in c.args.plans.items in
     let b = c.in-Ok-ran.ended.stalled.book in
     let dirty = c.in-Ok-ran.ended.dirty in
@@ -58,7 +58,7 @@ returns-in-Ok-renewed-clause-over g c =
 
 pub returns-in-Ok-ran-clause-error : goal.returns-in-Ok-ran-clause-error
 returns-in-Ok-ran-clause-error g c =
-    let p = c.args.pool in
+    let p = c.args.self in
     let plans = plans_in c.args.plans.items in
     let b = c.in-Ok-ran.ended.stalled.book in
     let dirty = c.in-Ok-ran.ended.dirty in
@@ -72,7 +72,7 @@ returns-in-Ok-ran-clause-error g c =
 
 pub returns-in-Ok-ran-clause-verdict : goal.returns-in-Ok-ran-clause-verdict
 returns-in-Ok-ran-clause-verdict g c =
-    let p = c.args.pool in
+    let p = c.args.self in
     let plans = plans_in c.args.plans.items in
     let b = c.in-Ok-ran.ended.stalled.book in
     let dirty = c.in-Ok-ran.ended.dirty in
@@ -89,7 +89,7 @@ returns-in-Ok-ran-clause-verdict g c =
 
 pub returns-in-Ok-ran-clause-left : goal.returns-in-Ok-ran-clause-left
 returns-in-Ok-ran-clause-left g c =
-    let p = c.args.pool in
+    let p = c.args.self in
     let plans = plans_in c.args.plans.items in
     let b = c.in-Ok-ran.ended.stalled.book in
     let dirty = c.in-Ok-ran.ended.dirty in

@@ -1,5 +1,5 @@
 use Rattle.pp_pool.specs.Parts.{settings_of}
-use Rattle.pp_run.proofs.pool.Pool.run_on_watched.Given as goal
+use Rattle.pp_run.proofs.running.run_once.Given as goal
 
 abbrev pub ghosts-live : goal.ghosts-live
 ghosts-live g a =

@@ -7,7 +7,7 @@ use Rattle.pp_run.specs.Unrun.{IsNotBegun}
 use Rattle.pp_run.proofs.Ran.{opened_as, opened_new, ran}
 use Rattle.pp_run.proofs.Ready.{unbegun_new, unbegun_answer}
 use Rattle.pp_run.proofs.RunsOn.{new_whole}
-use Rattle.pp_run.proofs.pool.Pool.run_watched.Goals as goal
+use Rattle.pp_run.proofs.running.run_once.Goals as goal
 
 pub returns-in-Ok-ran-clause-journal : goal.returns-in-Ok-ran-clause-journal
 returns-in-Ok-ran-clause-journal g c =

@@ -3,7 +3,7 @@ use Rattle.pp_core.specs.Opening.{kept_of}
 use Rattle.pp_model.specs.Pool.{Settings}
 use Rattle.pp_pool.specs.Parts.{settings_of}
 use Rattle.pp_vault.specs.Stages.{AllIdle}
-use Rattle.pp_run.proofs.rested.RestedPool.open.Goals as goal
+use Rattle.pp_run.proofs.pool.Pool.open.Goals as goal
 
 pub invariant_of-pool : goal.invariant_of-pool
 invariant_of-pool c =

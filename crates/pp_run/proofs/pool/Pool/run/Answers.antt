@@ -2,11 +2,11 @@ use Rattle.std.proofs.Common.{◌≡◌, length, subst, rules}
 use Rattle.pp_run.specs.Rested.{opening_of, IsEnd}
 use Rattle.pp_run.proofs.Ran.{opened_as, ran}
 use Rattle.pp_run.proofs.RunsOn.{over_of, kept_verdict}
-use Rattle.pp_run.proofs.pool.Pool.run_on_watched.Goals as goal
+use Rattle.pp_run.proofs.pool.Pool.run.Goals as goal
 
 pub returns-in-Ok-renewed-clause-journal : goal.returns-in-Ok-renewed-clause-journal
 returns-in-Ok-renewed-clause-journal g c =
-    let p = c.args.pool in
+    let p = c.args.self in
     let plans = c.args.plans.items in
     let b = c.in-Ok-ran.ended.stalled.book in
     let dirty = c.in-Ok-ran.ended.dirty in
@@ -19,7 +19,7 @@ returns-in-Ok-renewed-clause-journal g c =
 
 pub returns-in-Ok-renewed-clause-over : goal.returns-in-Ok-renewed-clause-over
 returns-in-Ok-renewed-clause-over g c =
-    let p = c.args.pool in
+    let p = c.args.self in
     let plans = c.args.plans.items in
     let b = c.in-Ok-ran.ended.stalled.book in
     let dirty = c.in-Ok-ran.ended.dirty in
@@ -31,7 +31,7 @@ returns-in-Ok-renewed-clause-over g c =
 
 pub returns-in-Err-renewed-clause-verdict : goal.returns-in-Err-renewed-clause-verdict
 returns-in-Err-renewed-clause-verdict g c =
-    let p = c.args.pool in
+    let p = c.args.self in
     let plans = c.args.plans.items in
     let b = c.in-Ok-ran.ended.stalled.book in
     let dirty = c.in-Ok-ran.ended.dirty in
