@@ -146,9 +146,10 @@ impl<'a, B: Desk, R: Wait> LockedSite<'a, B, R> {
 
     /// Puts a worker's hand back, and wakes all that wait.
     ///
-    /// Where the hand's place isn't empty it waits for ever: a token is spent only together with its vault, so a hand that
-    /// has no place can't be let go. A book gives out one hand for each place, so this needs a desk that makes places full
-    /// by itself. No test has met it, and no clause rules it out.
+    /// Where the hand's place isn't empty it waits for ever. A token is spent only together with its vault, from its place, so
+    /// a hand that has none can't be let go. Nor can it come back in what its thread gives: a scope starts only threads whose
+    /// results may be let go. A book gives out one hand for each place, so this needs a desk that makes places full by itself.
+    /// No test has met it, and no clause rules it out.
     pub(crate) fn put_back(&self, hand: Hand) {
         let mut hand = hand;
         let mut locked = self.hold();
