@@ -89,8 +89,11 @@ pub fn make(image: &mut [u8], page: u32) -> bool
     true
 }
 
-/// Whether the number stands at the front of the body.
-pub fn is_at_front(body: &[u8], number: u64) -> bool {
+/// Whether there is a body, and the number stands at the front of it.
+pub fn is_at_front(body: Option<&[u8]>, number: u64) -> bool {
+    let Some(body) = body else {
+        return false;
+    };
     let &[a, b, c, d, e, f, g, h, ..] = body else {
         return false;
     };

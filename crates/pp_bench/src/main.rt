@@ -3,9 +3,9 @@
 //! `pp_bench directory hit|skew|loop|mixed OPS [FRAMES]` prints how many of the requests missed, and `pp_bench pinned
 //! OPS` the same of so many misses with no page held, with 1,000, 4,000 and all of 4,096. `pp_bench marks OPS
 //! [FRAMES]` prints how many pages were brought in, each in place of another. `pp_bench moves hit|skew|loop|mixed OPS`
-//! plays fixes, latches, unlatches and unfixes to the core, and `pp_bench pool` the same to a vault over pages in
-//! memory; both print how many pages were read. `pp_bench lives` plays the trace twice, in two lives of one vault, and
-//! prints how many pages each of them read.
+//! plays fixes, latches, unlatches and unfixes to the core, `pp_bench pool` the same to a vault over pages in memory, and
+//! `pp_bench book` to a vault with its journal, without a lock; all three print how many pages were read. `pp_bench
+//! lives` plays the trace twice, in two lives of one vault, and prints how many pages each of them read.
 //!
 //! `pp_bench large hit|skew|loop|mixed OPS [FRAMES PAGES BYTES]` is `pp_bench pool` with a vault of this size, 65,536
 //! frames and 1,048,576 pages of 512 bytes where none is told, and over a device that keeps no page: it makes each when
@@ -22,6 +22,7 @@
 //! take is for the caller to measure.
 #![tactic(auto)]
 
+mod book;
 mod directory;
 mod disk;
 mod journal;
@@ -62,6 +63,7 @@ fn play(rt: &HostRuntime) -> Result<(), Trouble> {
         "marks" => marks::play(rt, &words[2..]),
         "moves" => moves::play(rt, &words[2..]),
         "pool" => pool::play(rt, &words[2..]),
+        "book" => book::play(rt, &words[2..]),
         "large" => pool::play_large(rt, &words[2..]),
         "open" => opening::play(rt, &words[2..]),
         "memory" => opening::weigh(rt, &words[2..]),

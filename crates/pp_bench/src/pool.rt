@@ -135,7 +135,7 @@ fn chair_of(hand: Hand) -> Chair
 }
 
 /// A device of all pages of these settings, in memory.
-fn device_of(alloc: Global, settings: &Settings) -> Result<Disk, Trouble> {
+pub fn device_of(alloc: Global, settings: &Settings) -> Result<Disk, Trouble> {
     let pages = numbered(alloc, settings.pages(), settings.page_bytes() as usize)?;
     Ok(Disk::over(pages))
 }
@@ -301,10 +301,7 @@ impl Pool {
 
     /// Whether the page has its number at the front of its body.
     fn is_numbered(&self, guard: &ReadGuard) -> bool {
-        match self.vault.see(guard) {
-            Some(body) => disk::is_at_front(body, u64::from(guard.page())),
-            None => false,
-        }
+        disk::is_at_front(self.vault.see(guard), u64::from(guard.page()))
     }
 
     fn unlatch(
