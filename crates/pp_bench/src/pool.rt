@@ -1,5 +1,5 @@
-//! Plays a trace to a vault over pages in memory, on one thread: each operation fixes a page, latches it S, looks at
-//! eight bytes of it, unlatches it and unfixes it. Or it plays the trace in two lives of one vault.
+//! Plays a trace to a vault over pages in memory, on one thread: each operation begins a reading of a page, looks at eight
+//! bytes of it, and ends the reading. Or it plays the trace in two lives of one vault.
 
 ghost use Rattle.std.specs.Prelude.{◌≡◌, ◌≤◌, true, IfOk};
 ghost use Rattle.pp_vault.specs.Stages.{is_idle_hand, AllIdle};
@@ -227,13 +227,35 @@ impl Pool {
         let mut count: u64 = 0;
         for _ in 0..ops {
             let page = trace.next_page().wrapping_mul(self.apart);
-            let (now, guard, was_cached) = self.fix(session, page)?;
+            let (now, was_cached) = self.look_at(session, page)?;
             if !was_cached {
                 count = count.wrapping_add(1);
             }
-            session = self.use_page(now, guard)?;
+            session = now;
         }
         Ok((session, count))
+    }
+
+    /// Reads the page and looks at it, and tells whether it was cached.
+    fn look_at(&mut self, session: Session, page: u32) -> Result<(Session, bool), Stopped> {
+        let (session, guard, was_cached) = self.read(session, page)?;
+        if !self.is_numbered(&guard) {
+            return Err(Stopped::holding(Stage::In(session), Guard::Read(guard)));
+        }
+        let session = self.end_read(session, guard)?;
+        Ok((session, was_cached))
+    }
+
+    /// Begins a reading of the page, and tells whether it was cached. What isn't possible at once is made by a fix and a latch.
+    fn read(&mut self, session: Session, page: u32) -> Result<(Session, ReadGuard, bool), Stopped> {
+        match self.vault.read(session, page) {
+            Ok((session, guard, _frame)) => Ok((session, guard, true)),
+            Err(session) => {
+                let (session, guard, was_cached) = self.fix(session, page)?;
+                let (session, guard) = self.latch(session, guard)?;
+                Ok((session, guard, was_cached))
+            }
+        }
     }
 
     /// Fixes the page, and tells whether it was cached.
@@ -275,16 +297,6 @@ impl Pool {
         }
     }
 
-    /// Latches the page, looks at it, unlatches it and unfixes it.
-    fn use_page(&mut self, session: Session, guard: PinGuard) -> Result<Session, Stopped> {
-        let (session, guard) = self.latch(session, guard)?;
-        if !self.is_numbered(&guard) {
-            return Err(Stopped::holding(Stage::In(session), Guard::Read(guard)));
-        }
-        let (session, guard) = self.unlatch(session, guard)?;
-        self.unfix(session, guard)
-    }
-
     fn latch(
         &mut self,
         session: Session,
@@ -299,32 +311,16 @@ impl Pool {
         }
     }
 
+    /// Ends a reading.
+    fn end_read(&mut self, session: Session, guard: ReadGuard) -> Result<Session, Stopped> {
+        match self.vault.end_read(session, guard) {
+            Ok((session, _mark)) => Ok(session),
+            Err((session, guard)) => Err(Stopped::holding(Stage::In(session), Guard::Read(guard))),
+        }
+    }
+
     /// Whether the page has its number at the front of its body.
     fn is_numbered(&self, guard: &ReadGuard) -> bool {
         disk::is_at_front(self.vault.see(guard), u64::from(guard.page()))
-    }
-
-    fn unlatch(
-        &mut self,
-        session: Session,
-        guard: ReadGuard,
-    ) -> Result<(Session, PinGuard), Stopped> {
-        match self.vault.unlatch_shared(session, guard) {
-            Ok((session, guard, _done)) => Ok((session, guard)),
-            Err((session, guard, _refusal)) => Err(Stopped::holding(
-                Stage::In(session),
-                Guard::Read(guard),
-            )),
-        }
-    }
-
-    fn unfix(&mut self, session: Session, guard: PinGuard) -> Result<Session, Stopped> {
-        match self.vault.unfix(session, guard) {
-            Ok((session, _done)) => Ok(session),
-            Err((session, guard, _refusal)) => Err(Stopped::holding(
-                Stage::In(session),
-                Guard::Pin(guard),
-            )),
-        }
     }
 }
