@@ -112,6 +112,28 @@ static void see_refusals(void) {
     end_with("00000000");
 }
 
+/* A device whose last page can't be read, or is another page, is of other settings. */
+static void see_other_devices(void) {
+    const pinpool_policy policy = {1, 0, 9, 8};
+    pinpool_fault fault = {0, 0};
+    char text[1000];
+    begin(5);
+    end_with("00000000");
+    snprintf(text, sizeof text, settings, 5);
+    unread = PAGES - 1;
+    SEE(pinpool_threads_open(text, strlen(text), &policy, &device, &pool, &fault) == PINPOOL_OTHER_SETTINGS && !pool);
+    unread = PINPOOL_NOBODY;
+    for (int byte = 0; byte < 4; byte++) {
+        kept[PAGES - 1][byte] ^= 8;
+        SEE(pinpool_threads_open(text, strlen(text), &policy, &device, &pool, &fault) == PINPOOL_OTHER_SETTINGS && !pool);
+        kept[PAGES - 1][byte] ^= 8;
+    }
+    unread = PAGES - 2; /* no other page is looked at */
+    SEE(pinpool_threads_open(text, strlen(text), &policy, &device, &pool, &fault) == PINPOOL_DONE);
+    unread = PINPOOL_NOBODY;
+    SEE(pinpool_threads_close(&pool) == PINPOOL_DONE);
+}
+
 static void see_failures(void) {
     adding a = {1, 5, 0, 1, 1, NULL, NULL};
     pinpool_end end;
@@ -248,6 +270,7 @@ static void see_file(const char *folder) {
 
 int main(int count, char **words) {
     see_refusals();
+    see_other_devices();
     see_failures();
     see_giving_up();
     see_queue(0);

@@ -442,6 +442,23 @@ static int start_flusher(pinpool_threads *pool) {
     return pool->has_flusher;
 }
 
+/* Whether the device is of these settings, by its last page: that can be read, and its image names it. */
+static int is_of_settings(pinpool_threads *pool) {
+    const uint8_t *head = pool->image;
+    const uint32_t last = pool->sizes.pages - 1;
+    if (!pool->device.read(pool->device.of, last, pool->image, pool->sizes.page_bytes)) return 0;
+    return ((uint32_t)head[0] << 24 | (uint32_t)head[1] << 16 | (uint32_t)head[2] << 8 | head[3]) == last;
+}
+
+/* Gets what an opened pool wants besides, looks whether the device is of its settings, and starts the flusher. */
+static pinpool_answer set_up(pinpool_threads *pool) {
+    pinpool_answer answer = pinpool_sizes_of(&pool->pool, &pool->sizes);
+    if (answer != PINPOOL_DONE) return answer;
+    if (!furnish(pool)) return PINPOOL_OUT_OF_MEMORY;
+    if (!is_of_settings(pool)) return PINPOOL_OTHER_SETTINGS;
+    return start_flusher(pool) ? PINPOOL_DONE : PINPOOL_OUT_OF_MEMORY;
+}
+
 pinpool_answer pinpool_threads_open(const char *settings, size_t length, const pinpool_policy *policy,
     const pinpool_device *device, pinpool_threads **made, pinpool_fault *fault) {
     pinpool_threads *pool = calloc(1, sizeof *pool);
@@ -454,12 +471,12 @@ pinpool_answer pinpool_threads_open(const char *settings, size_t length, const p
     pthread_mutex_init(&pool->flushing, NULL);
     answer = pinpool_open(&pool->pool, (const uint8_t *)settings, length, policy, fault);
     if (answer == PINPOOL_DONE) {
-        answer = pinpool_sizes_of(&pool->pool, &pool->sizes);
-        if (answer == PINPOOL_DONE && furnish(pool) && start_flusher(pool)) {
+        answer = set_up(pool);
+        if (answer == PINPOOL_DONE) {
             *made = pool;
             return answer;
         }
-        if (pinpool_abandon(&pool->pool, &lost) == PINPOOL_DONE) answer = PINPOOL_OUT_OF_MEMORY;
+        if (pinpool_abandon(&pool->pool, &lost) != PINPOOL_DONE) answer = PINPOOL_BROKEN;
     }
     set_free(pool);
     return answer;

@@ -64,9 +64,10 @@ typedef struct pinpool_end {
     uint32_t why;      /* a pinpool_failure */
 } pinpool_end;
 
-/* Opens a pool (see pinpool_open), with a thread that flushes by the policy. The device stands until the pool is closed.
-** DONE; WRONG_ARGUMENT; REFUSED, with `fault`; OTHER_SETTINGS; OUT_OF_MEMORY, also where no thread can be had. But for DONE *pool is
-** null. */
+/* Opens a pool (see pinpool_open), with a thread that flushes by the policy. The device stands until the pool is closed. Its last page
+** is read once: where it can't be read, or is another page, the device is of other settings.
+** DONE; WRONG_ARGUMENT; REFUSED, with `fault`; OTHER_SETTINGS, of the pool or of the device; OUT_OF_MEMORY, also where no thread can be
+** had; BROKEN. But for DONE *pool is null. */
 PINPOOL_API PINPOOL_MUST_USE pinpool_answer pinpool_threads_open(const char *settings, size_t length, const pinpool_policy *policy,
     const pinpool_device *device, pinpool_threads **pool, pinpool_fault *fault);
 

@@ -34,6 +34,11 @@ pub enum Error {
     /// The settings aren't those of a pool that stands: their life is bounded, no flush is allowed,
     /// or there are more than 32 workers.
     OtherSettings,
+    /// The device isn't of these settings: this page, its last, can't be read, or is another page.
+    OtherDevice {
+        /// The page's number.
+        page: u32,
+    },
     /// Memory ran out. Nothing was done.
     OutOfMemory,
     /// A number is out of its range.
@@ -139,6 +144,12 @@ impl fmt::Display for Error {
                 place: None,
             } => write!(f, "refused {number}"),
             Error::OtherSettings => f.write_str("not the settings of a pool that stands"),
+            Error::OtherDevice { page } => {
+                write!(
+                    f,
+                    "page {page} of the device can't be read, or is another page"
+                )
+            }
             Error::OutOfMemory => f.write_str("out of memory"),
             Error::WrongArgument => f.write_str("a number is out of its range"),
             Error::TooManyPlans => f.write_str("as many plans are kept as may be"),

@@ -126,12 +126,13 @@ pub struct Pool<D: Device> {
 
 impl<D: Device> Pool<D> {
     /// A pool with these settings (a text of version 2, whose life is endless), in which nothing
-    /// was done. It takes nearly all memory that the pool ever has.
+    /// was done. It takes nearly all memory that the pool ever has. The device's last page is read
+    /// once.
     ///
     /// # Errors
     ///
     /// [`Error::Refused`], [`Error::OtherSettings`], [`Error::WrongArgument`] where the queue's
-    /// length is out of its range, and [`Error::OutOfMemory`].
+    /// length is out of its range, and [`Error::OutOfMemory`]; then [`Error::OtherDevice`].
     pub fn open(settings: &str, policy: Policy, device: D) -> Result<Pool<D>, Error> {
         static OPENED: AtomicU64 = AtomicU64::new(0);
         let Policy {
@@ -166,7 +167,7 @@ impl<D: Device> Pool<D> {
         done(unsafe { ffi::pinpool_sizes_of(&mut handle, &mut sizes) })?;
         done(unsafe { ffi::pinpool_flusher(&mut handle, &mut ticket, &mut ask) })?;
         let page_bytes = sizes.page_bytes as usize;
-        Ok(Pool {
+        let pool = Pool {
             shared: Shared::new(Raw::new(handle, &sizes), &sizes),
             device: Some(device),
             flushing: Mutex::new(Flushing {
@@ -175,7 +176,21 @@ impl<D: Device> Pool<D> {
             }),
             sizes,
             number: OPENED.fetch_add(1, Ordering::Relaxed),
-        })
+        };
+        pool.see_device()?;
+        Ok(pool)
+    }
+
+    /// Looks whether the device is of the pool's settings, by its last page.
+    fn see_device(&self) -> Result<(), Error> {
+        let mut image = vec![0; self.sizes.page_bytes as usize];
+        let page = self.sizes.pages - 1;
+        let is_read = self.device().read(page, &mut image).is_ok();
+        if is_read && image[..4] == page.to_be_bytes() {
+            Ok(())
+        } else {
+            Err(Error::OtherDevice { page })
+        }
     }
 
     /// Checks a plan and keeps it, so that it can be run as often as wanted. It is kept until the

@@ -553,6 +553,36 @@ fn texts_and_plans_are_refused() {
 }
 
 #[test]
+fn a_device_of_other_settings_is_refused() {
+    let failing = Failing::new();
+    let refused = Error::OtherDevice { page: 7 };
+    failing.unread.store(7, Ordering::SeqCst);
+    let opened = Pool::open(&settings(1, 5), POLICY, &failing);
+    assert_eq!(opened.unwrap_err(), refused);
+    failing.unread.store(NOBODY, Ordering::SeqCst);
+    let mut image = vec![0; 512];
+    failing.pages.read(7, &mut image).unwrap();
+    for byte in 0..4 {
+        let mut other = image.clone();
+        other[byte] ^= 8;
+        failing.pages.write(7, &other).unwrap();
+        let opened = Pool::open(&settings(1, 5), POLICY, &failing);
+        assert_eq!(opened.unwrap_err(), refused);
+    }
+    failing.pages.write(7, &image).unwrap();
+    let shorter = MemoryPages::new(7, 512);
+    let opened = Pool::open(&settings(1, 5), POLICY, shorter);
+    assert_eq!(opened.unwrap_err(), refused);
+    assert_eq!(
+        refused.to_string(),
+        "page 7 of the device can't be read, or is another page"
+    );
+    // No other page is looked at.
+    failing.unread.store(6, Ordering::SeqCst);
+    Pool::open(&settings(1, 5), POLICY, &failing).unwrap();
+}
+
+#[test]
 fn flushes_run_out() {
     let failing = Failing::new();
     let pool = Pool::open(&settings(1, 1), POLICY, &failing).unwrap();
