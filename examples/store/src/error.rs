@@ -47,6 +47,7 @@ impl From<pinpool::Error> for Error {
             pinpool::Error::Gone { page, why } => {
                 Error::Damaged(format!("page {}: {why}", page.unwrap_or(0)))
             }
+            other @ pinpool::Error::OtherDevice { .. } => Error::Damaged(other.to_string()),
             other => Error::Pool(other),
         }
     }

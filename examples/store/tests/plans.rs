@@ -1,12 +1,28 @@
 // SPDX-License-Identifier: Apache-2.0
 //! The texts of the plans that stand in the folders plans and plans-refused.
 
-use pinpool::{Error, MemoryPages, Policy, Pool};
+use pinpool::{Device, Error, Policy, Pool};
+use std::io;
 use store::{plan_text, Job, Layout, Options};
 
-fn pool() -> Pool<MemoryPages> {
+/// A device of which each page is blank. No plan is run on it.
+struct Blank;
+
+impl Device for Blank {
+    fn read(&self, page: u32, image: &mut [u8]) -> io::Result<()> {
+        image.fill(0);
+        image[..4].copy_from_slice(&page.to_be_bytes());
+        Ok(())
+    }
+
+    fn write(&self, _page: u32, _image: &[u8]) -> io::Result<()> {
+        Err(io::ErrorKind::Unsupported.into())
+    }
+}
+
+fn pool() -> Pool<Blank> {
     let settings = include_str!("../plans/settings.toml");
-    Pool::open(settings, Policy::default(), MemoryPages::new(0, 4092)).unwrap()
+    Pool::open(settings, Policy::default(), Blank).unwrap()
 }
 
 #[test]
