@@ -123,7 +123,7 @@ fn opened<R: AllocGlobal + Wait + Copy + Drop>(
     let devices = SharedDevice::over_memory(rt, alloc, PAGES, PAGE_BYTES, ends)?;
     match BufferPool::open(alloc, settings, POLICY, devices) {
         Ok(pool) => Ok(pool),
-        Err((OpenError::OutOfMemory, _devices)) => Err(Trouble::Memory),
+        Err((OpenError::Hall(pp_hall::OpenError::OutOfMemory), _devices)) => Err(Trouble::Memory),
         Err((_error, _devices)) => Err(Trouble::Refused),
     }
 }

@@ -3,3 +3,4 @@ pub mod Executing
 pub mod Running
 pub mod Halls
 pub mod Copies
+pub mod Opening

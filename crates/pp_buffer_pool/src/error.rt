@@ -1,9 +1,21 @@
-//! Why a plan wasn't run.
+//! Why a pool isn't opened, and why a plan wasn't run.
 
 ghost use Rattle.std.specs.Prelude.{◌≡◌};
 ghost use Rattle.pp_buffer_pool.specs.Executing.{refused_entry};
 
 use pp_hall::EnterError;
+
+/// Why a pool isn't opened.
+#[derive(Clone, Copy, Debug, PartialEq, Eq, thiserror::Error)]
+pub enum OpenError {
+    /// The settings or the number of devices are at fault, or memory ran out.
+    #[error(transparent)]
+    Hall(pp_hall::OpenError),
+    /// The device is of other settings, or can't be read: this page, the last of the settings, wasn't read, or the image that
+    /// stands there names another.
+    #[error("the device doesn't have page {0} of these settings")]
+    OtherDevice(u32),
+}
 
 /// Why a plan wasn't run.
 #[derive(Clone, Copy, Debug, PartialEq, Eq, thiserror::Error)]

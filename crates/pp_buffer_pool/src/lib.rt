@@ -5,12 +5,12 @@
 #![tactic(auto)]
 
 pub use copies::OnCopies;
-pub use error::ExecuteError;
+pub use error::{ExecuteError, OpenError};
 pub use flushing::{Flush, FlusherEnd};
 pub use outcome::Outcome;
 pub use plan::PreparedPlan;
 pub use pool::BufferPool;
-pub use pp_hall::{CloseError, Closed, Counts, OpenError, Policy, Stats};
+pub use pp_hall::{CloseError, Closed, Counts, Policy, Stats};
 
 mod bells;
 mod copies;
@@ -18,6 +18,7 @@ mod ending;
 mod error;
 mod executing;
 mod flushing;
+mod opening;
 mod outcome;
 mod plan;
 mod pool;

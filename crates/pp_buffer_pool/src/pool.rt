@@ -2,15 +2,18 @@
 
 ghost use Rattle.std.specs.Prelude.{◌≡◌, ◌+◌, ◌*◌, ◌≤◌, None, IfOk, IfErr, OnOk, vec_len, length};
 ghost use Rattle.pp_settings.specs.Limits.{step_events, plan_events};
-ghost use Rattle.pp_hall.specs.Calls.{OpenFails, open_fault};
+ghost use Rattle.pp_hall.specs.Calls.{open_fault};
 ghost use Rattle.pp_buffer_pool.specs.Halls.{StatsOfSome, DirtyInSome, RefusesSome, ClosesSome, KeepsSome, AbandonsSome};
+ghost use Rattle.pp_buffer_pool.specs.Opening.{HasLastPage, OpenFails, ComeBack};
 
 use crate::bells::Bells;
+use crate::error::OpenError;
+use crate::opening::looked_at;
 use crate::plan::PreparedPlan;
 use pp_cert::Accepted;
 use pp_core::PrepareError;
 use pp_device::Device;
-use pp_hall::{CloseError, Closed, Hall, OpenError, Policy, Post, Stats, Told};
+use pp_hall::{CloseError, Closed, Hall, Policy, Post, Stats, Told};
 use pp_settings::Settings;
 use pp_wants::hold;
 use std::alloc::Global;
@@ -25,7 +28,7 @@ use std::sync::{Mutex, MutexGuard, Wait};
 ///
 /// | Call | Waits for | Takes memory |
 /// |---|---|---|
-/// | [`BufferPool::open`] | nothing | all that the pool ever needs, but for a chair's log and pages |
+/// | [`BufferPool::open`] | the device | all that the pool ever needs, but for a chair's log and pages |
 /// | [`BufferPool::prepare`] | the lock | none: the plan has its own |
 /// | [`BufferPool::execute`] | the lock; its turn, with room and a chair; a page, a frame or a latch; the device and the work | with the lock held, for what its chair lacks: an image, room for the plan's events, and for pages that the work is lent |
 /// | [`BufferPool::execute_on_copies`] | the same | the same |
@@ -54,10 +57,17 @@ impl<D: Device + Drop> BufferPool<D> {
     /// A pool with these settings, in which nothing was done. Of the devices one is each chair's, in their order, and
     /// the last is the flusher's: ends of one store, or of stores that show each the writings of all.
     ///
+    /// A device that was made for other settings is refused, as far as its last page shows: the flusher's end reads it, and the
+    /// head of the image has to name it.
+    ///
     /// # Errors
     ///
-    /// The devices come back, with the first fault of the settings ([`OpenError::of`]; a pool of which no page may be
-    /// flushed could not be closed), or else with [`OpenError::OutOfMemory`].
+    /// The devices come back, with the first of these:
+    ///
+    /// - [`OpenError::Hall`]: the first fault of the settings ([`pp_hall::OpenError::of`]; a pool of which no page may
+    ///   be flushed could not be closed), or no memory for the image of a page. No device was called.
+    /// - [`OpenError::OtherDevice`]: this page, the last, wasn't read, or its image names another.
+    /// - [`OpenError::Hall`] with [`pp_hall::OpenError::OutOfMemory`]: no memory for the pool. The page is there.
     pub fn open(
         alloc: Global,
         settings: &Settings,
@@ -65,21 +75,23 @@ impl<D: Device + Drop> BufferPool<D> {
         devices: Vec<D>,
     ) -> Result<BufferPool<D>, (OpenError, Vec<D>)>
         ensures fits { OnOk result (open_fault settings.now (vec_len devices) ≡ None) }
+        ensures page { OnOk result (HasLastPage D.Device settings.now devices.items) }
         ensures error { IfErr result (λ e. OpenFails settings.now (vec_len devices) e.0) }
-        ensures back { IfErr result (λ e. e.1 ≡ devices) }
+        ensures back { IfErr result (λ e. ComeBack D.Device settings.now e.0 devices e.1) }
     {
-        if let Some(fault) = OpenError::of(settings, devices.len()) {
-            return Err((fault, devices));
+        if let Some(fault) = pp_hall::OpenError::of(settings, devices.len()) {
+            return Err((OpenError::Hall(fault), devices));
         }
+        let devices = looked_at(alloc, settings, devices)?;
         let Ok(bells) = Bells::new(alloc, settings.workers()) else {
-            return Err((OpenError::OutOfMemory, devices));
+            return Err((OpenError::Hall(pp_hall::OpenError::OutOfMemory), devices));
         };
         match Hall::open(alloc, settings, policy, devices) {
             Ok(hall) => Ok(BufferPool {
                 hall: Mutex::new(hall),
                 bells,
             }),
-            Err(error) => Err(error),
+            Err((fault, devices)) => Err((OpenError::Hall(fault), devices)),
         }
     }
 

@@ -99,7 +99,10 @@ fn hall<R: Wait + Drop>(
     settings: &Settings,
     ends: Vec<SharedDevice<R>>,
 ) -> Result<Answer, (OpenError, Vec<SharedDevice<R>>)> {
-    let hall = Hall::open(alloc, settings, POLICY, ends)?;
+    let hall = match Hall::open(alloc, settings, POLICY, ends) {
+        Ok(hall) => hall,
+        Err((fault, ends)) => return Err((OpenError::Hall(fault), ends)),
+    };
     match hall.close() {
         Ok(closed) => Ok(of_closed(closed)),
         Err((_error, hall)) => {

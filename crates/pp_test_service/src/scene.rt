@@ -125,7 +125,7 @@ pub enum Faults {
     Page(u32),
     /// No end but the flusher's writes.
     Writings,
-    /// These calls of the flusher's end fail, counted from 1 on.
+    /// These writings of the flusher's end fail, counted from 1 on.
     Flusher(&'static [u32]),
     /// At each end a call fails now and then, and between two of these one lies.
     Often,

@@ -28,10 +28,12 @@ fn settings_of(rt: &impl Abort, alloc: Global, scene: &Scene) -> Settings {
     }
 }
 
-/// These calls fail.
-fn add_failures(rt: &impl Abort, calls: &[u32], troubles: &mut Vec<(u32, Trouble)>) {
-    for call in calls {
-        troubles.push((*call, Trouble::Fail)).expect(rt, "memory");
+/// These writings of the flusher's end fail. Before them it reads once, as the pool is opened.
+fn add_failures(rt: &impl Abort, writings: &[u32], troubles: &mut Vec<(u32, Trouble)>) {
+    for writing in writings {
+        troubles
+            .push((writing.saturating_add(1), Trouble::Fail))
+            .expect(rt, "memory");
     }
 }
 
@@ -39,7 +41,9 @@ fn add_failures(rt: &impl Abort, calls: &[u32], troubles: &mut Vec<(u32, Trouble
 fn troubles(rt: &impl Abort, alloc: Global, scene: &Scene, number: u32) -> Vec<(u32, Trouble)> {
     let mut troubles = Vec::new(alloc);
     match scene.faults {
-        Faults::Flusher(calls) if number == scene.workers => add_failures(rt, calls, &mut troubles),
+        Faults::Flusher(writings) if number == scene.workers => {
+            add_failures(rt, writings, &mut troubles)
+        }
         Faults::Often => {
             for time in 1..60u32 {
                 troubles

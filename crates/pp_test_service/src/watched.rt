@@ -85,8 +85,11 @@ impl<R: Abort + Wait + Clock> Device for Watched<R> {
 
     fn read(&mut self, page: u32, image: &mut [u8]) -> Result<(), Fault> {
         self.calls.raise();
-        self.board.tell(Thing::Read);
-        self.board.meet(&self.rt, Call::Read, page);
+        // The flusher's end reads only where the pool is opened, which is before the scene.
+        if !self.is_flushers() {
+            self.board.tell(Thing::Read);
+            self.board.meet(&self.rt, Call::Read, page);
+        }
         if self.is_lost(page) {
             self.failures.raise();
             return Err(Fault::Read);
