@@ -277,7 +277,10 @@ impl Reader {
             BookAnswer::Joined(session) => Err(Stage::In(session)),
             BookAnswer::Away(errand) => Err(Stage::Out(errand)),
             BookAnswer::Leaves(leaver) => Err(Stage::Leaving(leaver)),
-            BookAnswer::No(Request::Answer(returned), _refusal) => Err(Stage::Back(returned)),
+            BookAnswer::No(request, _refusal) => match request {
+                Request::Answer(returned) => Err(Stage::Back(returned)),
+                _ => unreachable!(),
+            },
             _ => unreachable!(),
         }
     }
