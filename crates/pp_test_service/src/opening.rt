@@ -2,6 +2,7 @@
 
 use crate::scene::{PAGE_BYTES, PAGES, POLICY};
 use pp_buffer_pool::{BufferPool, OpenError};
+use pp_device::image::HEAD;
 use pp_device::{Device, Failing, Trouble};
 use pp_hall::OpenError as Fault;
 use pp_settings::Settings;
@@ -93,6 +94,7 @@ fn ends_of<R: Abort + Wait + Copy + Drop>(
     other: &Other,
 ) -> Vec<Failing<SharedDevice<R>>> {
     let (pages, page_bytes, troubles) = other;
+    assert!(&rt; *page_bytes >= HEAD, "no room for a head");
     let shared = SharedDevice::over_memory(rt, alloc, *pages, *page_bytes, 3).expect(&rt, "memory");
     let mut ends = Vec::new(alloc);
     for end in shared {
