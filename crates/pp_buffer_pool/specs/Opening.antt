@@ -18,8 +18,8 @@ use Rattle.pp_buffer_pool.specs.declared.error.OpenError.TheVariants.{Hall, Othe
 abbrev pub is_own : (page : ℕ) → Answer → (image : List ℕ) → Bool
 is_own page answer image = is_ok answer && ((head_of image).0 == page)
 
--- One call of the device, a reading of this page into so many bytes. It tells whether the page was read and its image is
--- its own, and leaves the device so.
+-- One call of the device, a reading of this page into so many bytes. Whether the page was read and its image is its own, and what the
+-- call leaves of the device.
 pub record LooksAt {D : Type 0} (d : Device.Ghosts D) (bytes page : ℕ) (old : D) (own : Bool) (new : D) : Type 0 where
   pub before : List ℕ
   pub answer : Answer
@@ -36,7 +36,7 @@ pub record LooksAt {D : Type 0} (d : Device.Ghosts D) (bytes page : ℕ) (old : 
 abbrev pub last_page : Configuration → ℕ
 last_page c = page_count (geometry_of c) - 1
 
--- Whether the last of the devices, the flusher's, has the last page of these settings, by one call. All others stay as they
+-- Whether the last page of these settings was found by one call of the last of the devices, the flusher's. All others stay as they
 -- are.
 pub record LooksByLast {D : Type 0} (d : Device.Ghosts D) (c : Configuration) (old : List D) (own : Bool) (new : List D)
     : Type 0 where
@@ -47,19 +47,19 @@ pub record LooksByLast {D : Type 0} (d : Device.Ghosts D) (c : Configuration) (o
   pub is : new ≡ chairs ++ left ∷ []
   pub looks : LooksAt d c.page_bytes (last_page c) end own left
 
--- The last of the devices has the last page of these settings, as a reading found.
+-- A reading by the last of the devices found the last page of these settings.
 pub record HasLastPage {D : Type 0} (d : Device.Ghosts D) (c : Configuration) (devices : List D) : Type 0 where
   pub left : List D
   pub looks : LooksByLast d c devices true left
 
--- Why no pool is opened with so many devices: the first fault; or there is none, and memory ran out or the last page isn't
--- there.
+-- Why no pool is opened with so many devices: the first fault; or there is none, and memory ran out, or the page that is told is the
+-- last. (That it wasn't found `ComeBack` says.)
 abbrev pub OpenFails : Configuration → (devices : ℕ) → OpenError → Type 0
 OpenFails c devices (Hall fault) = hall.OpenFails c devices fault
 OpenFails c devices (OtherDevice page) = (hall.open_fault c devices ≡ None) × (page ≡ last_page c)
 
--- The devices that come back: with a fault of the settings as they were, without the last page as looking for it left them,
--- and with want of memory as they were, or as finding that page left them.
+-- The devices that come back: with a fault of the settings, or of the number of devices, as they were; where the last page wasn't found,
+-- as looking for it left them; and with want of memory as they were, or as finding that page left them.
 abbrev pub ComeBack : {D Z : Type 0} → Device.Ghosts D → Configuration → OpenError → (devices back : Vec D Z) → Type 0
 ComeBack d c (OtherDevice page) devices back = LooksByLast d c devices.items false back.items
 ComeBack d c (Hall OutOfMemory) devices back = (back ≡ devices) ⊎ LooksByLast d c devices.items true back.items

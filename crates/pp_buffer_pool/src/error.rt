@@ -13,7 +13,7 @@ pub enum OpenError {
     Hall(pp_hall::OpenError),
     /// The device is of other settings, or can't be read: this page, the last of the settings, wasn't read, or the image that
     /// stands there names another.
-    #[error("the device doesn't have page {0} of these settings")]
+    #[error("page {0}, the last of these settings, wasn't found on the device")]
     OtherDevice(u32),
 }
 

@@ -57,17 +57,18 @@ impl<D: Device + Drop> BufferPool<D> {
     /// A pool with these settings, in which nothing was done. Of the devices one is each chair's, in their order, and
     /// the last is the flusher's: ends of one store, or of stores that show each the writings of all.
     ///
-    /// A device that was made for other settings is refused, as far as its last page shows: the flusher's end reads it, and the
-    /// head of the image has to name it.
+    /// A device that was made for other settings is refused, as far as the settings' last page shows: the flusher's end reads it,
+    /// and the head of the image has to name it.
     ///
     /// # Errors
     ///
     /// The devices come back, with the first of these:
     ///
     /// - [`OpenError::Hall`]: the first fault of the settings ([`pp_hall::OpenError::of`]; a pool of which no page may
-    ///   be flushed could not be closed), or no memory for the image of a page. No device was called.
+    ///   be flushed could not be closed), or no memory for the image of a page.
     /// - [`OpenError::OtherDevice`]: this page, the last, wasn't read, or its image names another.
-    /// - [`OpenError::Hall`] with [`pp_hall::OpenError::OutOfMemory`]: no memory for the pool. The page is there.
+    /// - [`OpenError::Hall`] with [`pp_hall::OpenError::OutOfMemory`]: no memory for the pool. Which of the two
+    ///   it was isn't told.
     pub fn open(
         alloc: Global,
         settings: &Settings,
