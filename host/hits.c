@@ -32,13 +32,16 @@ static int get_lent(uint64_t ticket, uint32_t page, uint64_t *number, pinpool_as
     return 1;
 }
 
-/* Begins or ends a reading by one call, where that goes. Tells whether it did. */
-static int at_once(uint64_t ticket, uint32_t page, uint64_t *number, pinpool_ask *ask, pinpool_told *told) {
-    if (ask->step == PINPOOL_FIX && is_lent) return get_lent(ticket, page, number, ask, told);
-    if (ask->step == PINPOOL_FIX)
-        return pinpool_get(&pool, ticket, page, 0, (uint8_t *)number, sizeof *number, ask, told) == PINPOOL_DONE;
-    *number = 0;
-    return ask->step == PINPOOL_UNLATCH && pinpool_put(&pool, ticket, ask, told) == PINPOOL_DONE;
+/* Fixes and latches a page by one call, and reads its number, where that goes. Tells whether it did. */
+static int get(uint64_t ticket, uint32_t page, uint64_t *number, pinpool_ask *ask, pinpool_told *told) {
+    if (is_lent) return get_lent(ticket, page, number, ask, told);
+    return pinpool_get(&pool, ticket, page, 0, (uint8_t *)number, sizeof *number, ask, told) == PINPOOL_DONE;
+}
+
+/* Takes the latch off and the page back by one call. Where that doesn't go, the steps go on from here. */
+static void put(uint64_t ticket, pinpool_ask *ask, pinpool_told *told) {
+    const pinpool_answer answer = pinpool_put(&pool, ticket, ask, told);
+    if (answer != PINPOOL_NOT_AT_ONCE) see(answer);
 }
 
 /* Runs a plan, and gives the sum of what it has read. */
@@ -52,8 +55,9 @@ static uint64_t run(uint32_t plan) {
     while (ask.step != PINPOOL_OVER && ask.step != PINPOOL_GONE) {
         uint32_t argument = 0;
         if (ask.step == PINPOOL_FIX) argument = page++ % 64;
-        if (!by_steps && at_once(ticket, argument, &number, &ask, &told)) {
+        if (!by_steps && ask.step == PINPOOL_FIX && get(ticket, argument, &number, &ask, &told)) {
             sum += number;
+            put(ticket, &ask, &told);
             continue;
         }
         if (ask.step == PINPOOL_READ) {

@@ -2,11 +2,14 @@
 use Rattle.std.proofs.Common.{◌≡◌, ◌≢◌, ◌∙◌, ℕ, ◌+◌, ◌≤◌, max, Bool, true, false, not, eqb, Result, Ok, Err, List, []}
 use Rattle.std.proofs.Common.{◌∷◌, Option, Some, None, refl, sym, ap, subst}
 use Rattle.std.proofs.Common.{inl, inr, arith}
-use Rattle.std.specs.Prelude.{◌↔◌, IfSome, IfOk, OnErr, option_map}
+use Rattle.std.specs.Prelude.{◌↔◌, ◌==◌, IfSome, IfOk, OnErr, option_map, length}
 use Rattle.std.proofs.lemmas.Bool.{cases_eq}
+use Rattle.std.proofs.lemmas.Bool.Decides.{nat_tests}
+use Rattle.std.proofs.lemmas.List.{nil_from_length}
+use Rattle.std.proofs.lemmas.Option.{none-some}
 use Rattle.pp_admission.specs.declared.waiting.Waiting.{Waiting}
 use Rattle.pp_admission.specs.Queues as admission
-use Rattle.pp_admission.specs.Queues.{IsSound, next_in, waiting_at, peak_at, is_asleep, is_asleep_at, marked}
+use Rattle.pp_admission.specs.Queues.{IsSound, NextIsAwake, next_among, next_in, waiting_at, peak_at, is_asleep, is_asleep_at, marked}
 use Rattle.pp_admission.specs.Queues.{overtaken_by, newcomer}
 use Rattle.pp_admission.specs.Queues.{without, entered, started, left, put_to_sleep, woken, all_woken, awakened}
 use Rattle.pp_wants.specs.declared.sleepers.Sleeper.{Sleeper}
@@ -27,6 +30,21 @@ woken_is q r (Some t) some none = some
 counted_woken : (next : Option ℕ) (q : admission.Parts) → AreCounted q.waiting → AreCounted (woken_by next q).waiting
 counted_woken None q h = h
 counted_woken (Some t) q h = counted_map (marked t false) (marked_peak t false) q.waiting h
+
+-- Where nobody waits, nobody is next.
+nobody_among : (bypass room : ℕ) (ws : List Waiting) → (length ws == 0) ≡ true → next_among bypass room ws ≡ None
+nobody_among bypass room ws e = ap (next_among bypass room) (nil_from_length ws (grind (arith, nat_tests)))
+
+nobody_next : (q : admission.Parts) (room : ℕ) (b : Bool) → b ≡ (length q.waiting == 0) → b ≡ true → next_in q room ≡ None
+nobody_next q room b e is = nobody_among q.bypass room q.waiting (sym e ∙ is)
+
+pub nobody_told : (q : admission.Parts) (room : ℕ) (b : Bool) → b ≡ (length q.waiting == 0) → b ≡ true → (t : ℕ)
+    → (◌≡◌ {A = Option ℕ} None (Some t)) ↔ ((next_in q room ≡ Some t) × (is_asleep_at q t ≡ true))
+nobody_told q room b e is t =
+    ((λ n. absurd (none-some t n)), (λ h. absurd (none-some t (sym (nobody_next q room b e is) ∙ h.0))))
+
+pub nobody_asleep : (q : admission.Parts) (room : ℕ) (b : Bool) → b ≡ (length q.waiting == 0) → b ≡ true → NextIsAwake q room
+nobody_asleep q room b e is = λ t h. absurd (none-some t (sym (nobody_next q room b e is) ∙ h))
 
 -- Where everybody is awake, nobody is told.
 none_told : (q : admission.Parts) (room : ℕ) (next : Option ℕ)

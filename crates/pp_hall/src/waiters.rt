@@ -1,12 +1,12 @@
 //! Who waits at a hall.
 
-ghost use Rattle.std.specs.Prelude.{◌≡◌, ℕ, ◌≤◌, ◌&&◌, max, true, false, not, None, Some, IfOk, IfErr, IfSome, OnErr};
+ghost use Rattle.std.specs.Prelude.{◌≡◌, ◌↔◌, ℕ, ◌≤◌, ◌&&◌, max, true, false, not, None, Some, IfOk, IfErr, IfSome, OnErr};
 ghost use Rattle.std.specs.Prelude.{length, replicate};
 ghost use Rattle.pp_settings.specs.Limits.{bell_count};
 ghost use Rattle.pp_model.specs.Pool.{State};
 ghost use Rattle.pp_vault.specs.StandsFor.{StandsFor};
 ghost use Rattle.pp_admission.specs.Queues.{empty_queue, IsFull, next_in, peak_at, entered, started, left};
-ghost use Rattle.pp_admission.specs.Queues.{put_to_sleep, NextIsAwake};
+ghost use Rattle.pp_admission.specs.Queues.{put_to_sleep, is_asleep_at, woken, NextIsAwake};
 ghost use Rattle.pp_hall.specs.Seatings.{room_of, is_wanted};
 ghost use Rattle.pp_hall.specs.Waiters.{IsWaiters, NobodyIsForgotten, Settles, with_place, with_queue, place_after};
 ghost use Rattle.pp_hall.specs.Waiters.{stopped, FlusherRests};
@@ -99,12 +99,13 @@ impl Waiters {
     // ---- whom a call tells
 
     /// Tells everybody whose wake-up would be lost, and answers whom it told. From then on nobody is forgotten.
+    #[inline(always)]
     pub(crate) fn settle(&mut self, seating: &Seating, flush_from: u32) -> Told
         ensures awake { NobodyIsForgotten seating.now flush_from self.new }
         ensures settles { Settles seating.now flush_from self.old result self.new }
     {
         let workers = self.sleepers.settle(seating.vault());
-        let next = self.queue.wake_next(seating.room());
+        let next = wake_next(&mut self.queue, seating);
         let (flusher, sleeps) = flusher_after(self.is_flusher_asleep, seating, flush_from);
         self.is_flusher_asleep = sleeps;
         Told {
@@ -222,6 +223,23 @@ impl Waiters {
             flusher,
         }
     }
+}
+
+/// Wakes the one that waits to start and may in the room that the seating has, if it was asleep. Where nobody waits, nobody looks
+/// for that room, which takes a step for each chair.
+#[inline(always)]
+#[tactic(auto, using(crate::proofs::Settling::nobody_told, crate::proofs::Settling::nobody_asleep))]
+fn wake_next(queue: &mut AdmissionQueue, seating: &Seating) -> Option<Ticket>
+    ensures told { (t : ℕ) → (result ≡ Some t)
+        ↔ ((next_in queue.old (room_of seating.now) ≡ Some t) × (is_asleep_at queue.old t ≡ true)) }
+    ensures woken { IfSome result (λ ticket. queue.new ≡ woken queue.old ticket) }
+    ensures unchanged { result ≡ None → queue.new ≡ queue.old }
+    ensures awake { NextIsAwake queue.new (room_of seating.now) }
+{
+    if queue.is_empty() {
+        return None;
+    }
+    queue.wake_next(seating.room())
 }
 
 /// Whether the flusher is told, which sleeps or doesn't, and whether it sleeps then.

@@ -89,8 +89,25 @@ impl Ask {
         }
     }
 
-    /// What this step is.
+    /// What this step is. The two that a hit asks come first: a call that tells one of them compares twice.
+    #[inline(always)]
     pub(crate) fn of(step: Step) -> Ask
+        ensures { result ≡ ask_of step }
+    {
+        match step {
+            Step::Fix {
+                slot,
+                region,
+                first,
+                count,
+            } => Ask::pages(2, slot, region, first, count),
+            Step::Unlatch { slot, page } => Ask::slot(8, slot, page),
+            step => Ask::of_any(step),
+        }
+    }
+
+    /// The same of any step.
+    fn of_any(step: Step) -> Ask
         ensures { result ≡ ask_of step }
     {
         match step {

@@ -34,10 +34,12 @@ pub extern "C" fn pinpool_get(
     ensures bytes { result ≢ code answer.Done → bytes.new ≡ bytes.old }
     ensures long { length bytes.new ≡ length bytes.old }
 {
-    *ask = Ask::none();
-    *told = Told::nobody();
     match take(alloc, handle) {
-        None => Answer::NoPool.code(),
+        None => {
+            *ask = Ask::none();
+            *told = Told::nobody();
+            Answer::NoPool.code()
+        }
         Some(mut kept) => {
             let answer = get(&mut kept, Pass::of(ticket), page, from, bytes, ask, told);
             put(handle, kept);
@@ -47,6 +49,7 @@ pub extern "C" fn pinpool_get(
 }
 
 /// The one with this pass begins a reading.
+#[inline(always)]
 fn get(
     kept: &mut Kept,
     pass: Pass,
@@ -61,8 +64,8 @@ fn get(
     ensures settings { kept.new.settings ≡ kept.old.settings }
 {
     let (got, rings) = kept.steps.get(pass, page, from, bytes);
-    *told = Told::of(rings);
     *ask = ask_behind(kept, pass, got);
+    *told = Told::of(rings);
     answer_of(got)
 }
 
@@ -80,10 +83,12 @@ pub extern "C" fn pinpool_put(
     ensures puts { Goes (λ old new. PutsTo ticket result ask.new told.new old new) handle.old.value handle.new.value }
     ensures unchanged { result ≢ code answer.Done → handle.new.value ≡ handle.old.value }
 {
-    *ask = Ask::none();
-    *told = Told::nobody();
     match take(alloc, handle) {
-        None => Answer::NoPool.code(),
+        None => {
+            *ask = Ask::none();
+            *told = Told::nobody();
+            Answer::NoPool.code()
+        }
         Some(mut kept) => {
             let answer = put_back(&mut kept, Pass::of(ticket), ask, told);
             put(handle, kept);
@@ -93,17 +98,19 @@ pub extern "C" fn pinpool_put(
 }
 
 /// The one with this pass ends a reading.
+#[inline(always)]
 fn put_back(kept: &mut Kept, pass: Pass, ask: &mut Ask, told: &mut Told) -> Answer
     ensures puts { PutsBy pass result ask.new told.new kept.old.steps kept.new.steps }
     ensures settings { kept.new.settings ≡ kept.old.settings }
 {
     let (ended, rings) = kept.steps.put(pass);
-    *told = Told::of(rings);
     *ask = ask_behind(kept, pass, ended);
+    *told = Told::of(rings);
     answer_of(ended)
 }
 
 /// What a reading that was begun or ended is answered.
+#[inline(always)]
 fn answer_of(done: Result<Step, AtOnceError>) -> Answer
     ensures { result ≡ at_once_answer done }
 {
@@ -114,6 +121,7 @@ fn answer_of(done: Result<Step, AtOnceError>) -> Answer
 }
 
 /// What comes behind it.
+#[inline(always)]
 fn ask_behind(kept: &Kept, pass: Pass, done: Result<Step, AtOnceError>) -> Ask
     ensures { result ≡ ask_at_once done kept.now.steps pass }
 {

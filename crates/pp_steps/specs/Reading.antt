@@ -35,6 +35,10 @@ use Rattle.pp_steps.specs.Seats.{seated_at, with_seat}
 
 -- ---- with the tokens of a worker
 
+-- The tokens of a worker that acts in a plan, with this session and these guards.
+abbrev pub acting : Session → List (Option Guard) → Hand
+acting session guards = record { stage = stage.In session; guards = guards }
+
 -- With the session at this stage the page was fixed and latched S, by one call of the hall, which has told these; this guard comes.
 pub record BeginsBy (old : Stage) (h : halls.Parts) (page : ℕ) (got : ReadGuard) (told : Told) (h' : halls.Parts) (new : Stage)
     : Type 0 where

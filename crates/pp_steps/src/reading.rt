@@ -3,9 +3,11 @@
 ghost use Rattle.std.specs.Prelude.{◌≡◌, true, None, Some, IfSome, IfNone, IfOk, IfErr, OnErr, length};
 ghost use Rattle.pp_steps.specs.declared.seated.Seated.{Seated as Runner};
 ghost use Rattle.pp_steps.specs.Bytes.{lies_in};
-ghost use Rattle.pp_steps.specs.Reading.{Gets, CannotGet, may_begin, Begins, BeginsBy, CannotBegin, Puts, CannotPut, slot_off, EndsBy, CannotEnd, Ends};
+ghost use Rattle.pp_vault.specs.declared.stage.Stage.TheVariants.{In};
+ghost use Rattle.pp_steps.specs.Reading.{Gets, CannotGet, can_get, acting, Begins, BeginsBy, CannotBegin, Puts, CannotPut, asked_off, EndsBy, CannotEnd, Ends};
 ghost use Rattle.pp_steps.specs.Reading.{GetIs, PutIs};
 ghost use Rattle.pp_steps.specs.Seats.{seated_at, with_seat};
+ghost use Rattle.pp_steps.specs.StepsOf.{step_asked};
 
 use crate::bytes::{copied_shared, lies_in, put};
 use crate::error::{AtOnceError, PassError};
@@ -19,7 +21,8 @@ use crate::steps::Steps;
 use core::mem;
 use pp_hall::Told;
 use pp_plan::Ask;
-use pp_vault::{Guard, Guards, ReadGuard, Stage};
+use pp_settings::Layout;
+use pp_vault::{Guard, Guards, ReadGuard, Session, Stage};
 
 /// What came of a reading that was begun.
 pub(crate) struct Begun {
@@ -167,12 +170,10 @@ impl Seated {
         ensures long { length bytes.new ≡ length bytes.old }
     {
         let hand = &mut self.worker.hand;
-        match get(&mut hand.stage, &mut hand.guards, hall, page, from, bytes) {
-            Some(told) => Some(Begun {
-                told,
-                step: self.step(),
-            }),
-            None => None,
+        let layout = &self.worker.layout;
+        match &mut hand.stage {
+            Stage::In(session) => get(session, &mut hand.guards, layout, hall, page, from, bytes),
+            _ => None,
         }
     }
 
@@ -185,107 +186,124 @@ impl Seated {
         ensures hall { IfNone result (hall.new.value ≡ hall.old.value) }
     {
         let hand = &mut self.worker.hand;
-        match put_back(&mut hand.stage, &mut hand.guards, hall) {
-            Some(told) => Some(Ended {
-                told,
-                step: self.step(),
-            }),
-            None => None,
+        let layout = &self.worker.layout;
+        match &mut hand.stage {
+            Stage::In(session) => put_back(session, &mut hand.guards, layout, hall),
+            _ => None,
         }
     }
 }
 
-/// Begins a reading with these tokens, where that is possible at once. Tells whom the hall has told.
+/// Begins a reading with these tokens, where that is possible at once.
+#[inline(always)]
 fn get(
-    stage: &mut Stage,
+    session: &mut Session,
     guards: &mut Guards,
+    layout: &Layout,
     hall: &mut KeptHall,
     page: u32,
     from: usize,
     bytes: &mut [u8],
-) -> Option<Told>
+) -> Option<Begun>
     requires { lies_in hall.old.value.seating.vault.page_bytes from (length bytes.old) ≡ true }
-    ensures some { IfSome result (λ told. Gets (record { stage = stage.old; guards = guards.old }) hall.old.value page from bytes.new
-        told hall.new.value (record { stage = stage.new; guards = guards.new })) }
-    ensures none { IfNone result (CannotGet stage.old guards.old hall.old.value.seating.vault page) }
-    ensures stage { IfNone result (stage.new ≡ stage.old) }
+    ensures some { IfSome result (λ begun. Gets (acting session.old guards.old) hall.old.value page from bytes.new begun.told
+        hall.new.value (acting session.new guards.new)) }
+    ensures step { IfSome result (λ begun. begun.step ≡ step_asked layout.now guards.new session.new.ask) }
+    ensures none { IfNone result (CannotGet (In session.old) guards.old hall.old.value.seating.vault page) }
+    ensures session { IfNone result (session.new ≡ session.old) }
     ensures guards { IfNone result (guards.new ≡ guards.old) }
     ensures hall { IfNone result (hall.new.value ≡ hall.old.value) }
     ensures bytes { IfNone result (bytes.new ≡ bytes.old) }
     ensures long { length bytes.new ≡ length bytes.old }
 {
-    if !may_begin(stage, guards) {
+    if !may_begin(session, guards) {
         return None;
     }
-    let Some((guard, told)) = begin(stage, hall, page) else {
+    let Some((guard, told)) = begin(session, hall, page) else {
         return None;
     };
     if !copied_shared(hall, &guard, from, bytes) {
         unreachable!();
     }
     put(guards, Guard::Read(guard));
-    Some(told)
+    Some(Begun {
+        told,
+        step: Step::asked(session.ask(), guards, layout),
+    })
 }
 
 /// Whether the plan asks a fix into a slot whose place is free.
-fn may_begin(stage: &Stage, guards: &Guards) -> bool
-    ensures { result ≡ may_begin guards.now stage.now }
+#[inline(always)]
+fn may_begin(session: &Session, guards: &Guards) -> bool
+    ensures { result ≡ can_get guards.now session.now.ask }
 {
-    match stage {
-        Stage::In(session) => match session.ask() {
-            Ask::Fix { slot, region: _ } => guards.is_free(u32::from(slot)),
-            _ => false,
-        },
+    match session.ask() {
+        Ask::Fix { slot, region: _ } => guards.is_free(u32::from(slot)),
         _ => false,
     }
 }
 
 /// Makes both moves at a reading's begin by the hall, where it can.
-fn begin(stage: &mut Stage, hall: &mut KeptHall, page: u32) -> Option<(ReadGuard, Told)>
-    ensures some { IfSome result (λ now. BeginsBy stage.old hall.old.value page now.0 now.1 hall.new.value stage.new) }
-    ensures none { IfNone result (CannotBegin stage.old hall.old.value.seating.vault page) }
-    ensures stage { IfNone result (stage.new ≡ stage.old) }
+#[inline(always)]
+fn begin(session: &mut Session, hall: &mut KeptHall, page: u32) -> Option<(ReadGuard, Told)>
+    ensures some { IfSome result
+        (λ now. BeginsBy (In session.old) hall.old.value page now.0 now.1 hall.new.value (In session.new)) }
+    ensures none { IfNone result (CannotBegin (In session.old) hall.old.value.seating.vault page) }
+    ensures session { IfNone result (session.new ≡ session.old) }
     ensures hall { IfNone result (hall.new.value ≡ hall.old.value) }
 {
-    let (begun, hall) = mem::replace_with(stage, hall, |stage, hall| {
-        let (stage, begun) = begun_of(stage, hall, page);
-        (stage, (begun, hall))
+    let (begun, hall) = mem::replace_with(session, hall, |session, hall| {
+        let (session, begun) = begun_of(session, hall, page);
+        (session, (begun, hall))
     });
     taken_back(hall);
     begun
 }
 
-/// The same with a stage that is handed on.
-fn begun_of(stage: Stage, hall: &mut KeptHall, page: u32) -> (Stage, Option<(ReadGuard, Told)>)
-    ensures some { IfSome result.1 (λ now. BeginsBy stage hall.old.value page now.0 now.1 hall.new.value result.0) }
-    ensures none { IfNone result.1 (CannotBegin stage hall.old.value.seating.vault page) }
-    ensures stage { IfNone result.1 (result.0 ≡ stage) }
+/// The same with a session that is handed on.
+#[inline(always)]
+fn begun_of(
+    session: Session,
+    hall: &mut KeptHall,
+    page: u32,
+) -> (Session, Option<(ReadGuard, Told)>)
+    ensures some { IfSome result.1
+        (λ now. BeginsBy (In session) hall.old.value page now.0 now.1 hall.new.value (In result.0)) }
+    ensures none { IfNone result.1 (CannotBegin (In session) hall.old.value.seating.vault page) }
+    ensures session { IfNone result.1 (result.0 ≡ session) }
     ensures hall { IfNone result.1 (hall.new.value ≡ hall.old.value) }
 {
-    match stage {
-        Stage::In(session) => match hall.read(session, page) {
-            Ok((session, guard, _, told)) => (Stage::In(session), Some((guard, told))),
-            Err(session) => (Stage::In(session), None),
-        },
-        stage => (stage, None),
+    match hall.read(session, page) {
+        Ok((session, guard, _, told)) => (session, Some((guard, told))),
+        Err(session) => (session, None),
     }
 }
 
-/// Ends a reading with these tokens, where that is possible at once. Tells whom the hall has told.
-fn put_back(stage: &mut Stage, guards: &mut Guards, hall: &mut KeptHall) -> Option<Told>
-    ensures some { IfSome result (λ told. Puts (record { stage = stage.old; guards = guards.old }) hall.old.value told hall.new.value
-        (record { stage = stage.new; guards = guards.new })) }
-    ensures none { IfNone result (CannotPut stage.old guards.old hall.old.value.seating.vault) }
-    ensures stage { IfNone result (stage.new ≡ stage.old) }
+/// Ends a reading with these tokens, where that is possible at once.
+#[inline(always)]
+fn put_back(
+    session: &mut Session,
+    guards: &mut Guards,
+    layout: &Layout,
+    hall: &mut KeptHall,
+) -> Option<Ended>
+    ensures some { IfSome result (λ ended. Puts (acting session.old guards.old) hall.old.value ended.told hall.new.value
+        (acting session.new guards.new)) }
+    ensures step { IfSome result (λ ended. ended.step ≡ step_asked layout.now guards.new session.new.ask) }
+    ensures none { IfNone result (CannotPut (In session.old) guards.old hall.old.value.seating.vault) }
+    ensures session { IfNone result (session.new ≡ session.old) }
     ensures guards { IfNone result (guards.new ≡ guards.old) }
     ensures hall { IfNone result (hall.new.value ≡ hall.old.value) }
 {
-    let Some(slot) = slot_off(stage) else {
+    let Some(slot) = slot_off(session) else {
         return None;
     };
     match guards.take(slot) {
-        Some(Guard::Read(guard)) => match end(stage, hall, guard) {
-            Ok(told) => Some(told),
+        Some(Guard::Read(guard)) => match end(session, hall, guard) {
+            Ok(told) => Some(Ended {
+                told,
+                step: Step::asked(session.ask(), guards, layout),
+            }),
             Err(guard) => {
                 put(guards, Guard::Read(guard));
                 None
@@ -300,49 +318,50 @@ fn put_back(stage: &mut Stage, guards: &mut Guards, hall: &mut KeptHall) -> Opti
 }
 
 /// The slot whose latch the plan takes off next, if it does.
-fn slot_off(stage: &Stage) -> Option<u32>
-    ensures { result ≡ slot_off stage.now }
+#[inline(always)]
+fn slot_off(session: &Session) -> Option<u32>
+    ensures { result ≡ asked_off session.now.ask }
 {
-    match stage {
-        Stage::In(session) => match session.ask() {
-            Ask::Unlatch { slot } => Some(u32::from(slot)),
-            _ => None,
-        },
+    match session.ask() {
+        Ask::Unlatch { slot } => Some(u32::from(slot)),
         _ => None,
     }
 }
 
 /// Makes both moves at a reading's end by the hall, where it can. Else the guard comes back.
-fn end(stage: &mut Stage, hall: &mut KeptHall, guard: ReadGuard) -> Result<Told, ReadGuard>
-    ensures ok { IfOk result (λ told. EndsBy stage.old hall.old.value guard told hall.new.value stage.new) }
-    ensures err { OnErr result (CannotEnd stage.old guard hall.old.value.seating.vault) }
+#[inline(always)]
+fn end(session: &mut Session, hall: &mut KeptHall, guard: ReadGuard) -> Result<Told, ReadGuard>
+    ensures ok { IfOk result (λ told. EndsBy (In session.old) hall.old.value guard told hall.new.value (In session.new)) }
+    ensures err { OnErr result (CannotEnd (In session.old) guard hall.old.value.seating.vault) }
     ensures back { IfErr result (λ g. g ≡ guard) }
-    ensures stage { OnErr result (stage.new ≡ stage.old) }
+    ensures session { OnErr result (session.new ≡ session.old) }
     ensures hall { OnErr result (hall.new.value ≡ hall.old.value) }
 {
-    let (ended, hall) = mem::replace_with(stage, (hall, guard), |stage, around| {
+    let (ended, hall) = mem::replace_with(session, (hall, guard), |session, around| {
         let (hall, guard) = around;
-        let (stage, ended) = ended_of(stage, hall, guard);
-        (stage, (ended, hall))
+        let (session, ended) = ended_of(session, hall, guard);
+        (session, (ended, hall))
     });
     taken_back(hall);
     ended
 }
 
-/// The same with a stage that is handed on.
-fn ended_of(stage: Stage, hall: &mut KeptHall, guard: ReadGuard) -> (Stage, Result<Told, ReadGuard>)
-    ensures ok { IfOk result.1 (λ told. EndsBy stage hall.old.value guard told hall.new.value result.0) }
-    ensures err { OnErr result.1 (CannotEnd stage guard hall.old.value.seating.vault) }
+/// The same with a session that is handed on.
+#[inline(always)]
+fn ended_of(
+    session: Session,
+    hall: &mut KeptHall,
+    guard: ReadGuard,
+) -> (Session, Result<Told, ReadGuard>)
+    ensures ok { IfOk result.1 (λ told. EndsBy (In session) hall.old.value guard told hall.new.value (In result.0)) }
+    ensures err { OnErr result.1 (CannotEnd (In session) guard hall.old.value.seating.vault) }
     ensures back { IfErr result.1 (λ g. g ≡ guard) }
-    ensures stage { OnErr result.1 (result.0 ≡ stage) }
+    ensures session { OnErr result.1 (result.0 ≡ session) }
     ensures hall { OnErr result.1 (hall.new.value ≡ hall.old.value) }
 {
-    match stage {
-        Stage::In(session) => match hall.end_read(session, guard) {
-            Ok((session, _, told)) => (Stage::In(session), Ok(told)),
-            Err((session, guard)) => (Stage::In(session), Err(guard)),
-        },
-        stage => (stage, Err(guard)),
+    match hall.end_read(session, guard) {
+        Ok((session, _, told)) => (session, Ok(told)),
+        Err((session, guard)) => (session, Err(guard)),
     }
 }
 

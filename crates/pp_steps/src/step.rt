@@ -116,7 +116,8 @@ impl Step {
     }
 
     /// What a plan asks.
-    fn asked(ask: Ask, guards: &Guards, layout: &Layout) -> Step
+    #[inline(always)]
+    pub(crate) fn asked(ask: Ask, guards: &Guards, layout: &Layout) -> Step
         ensures { result ≡ step_asked layout.now guards.now ask }
     {
         match ask {

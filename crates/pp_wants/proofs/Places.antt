@@ -1,9 +1,9 @@
 -- What a place says of its worker, and lists of places of which one changes.
 use Rattle.std.proofs.Common.{◌≡◌, ℕ, zero, suc, ◌+◌, ◌-◌, ◌<◌, ◌≤◌, ◌^◌, ◌⊎◌, Bool, true, false, None, Some, List, length, set}
 use Rattle.std.proofs.Common.{refl, ap, sym, ◌∙◌, inl, inr, arith, cond, count_by, replicate}
-use Rattle.std.specs.Prelude.{Option}
+use Rattle.std.specs.Prelude.{Option, is_some}
 use Rattle.std.proofs.lemmas.Bool.{cases_eq, cases_lt, both_ways}
-use Rattle.std.proofs.lemmas.List.{get_or_past, get_or-set_same, get_or-set_other, length-set, set_past, length-replicate}
+use Rattle.std.proofs.lemmas.List.{get_or_past, get_or-set_same, get_or-set_other, length-set, set_past, set-get_or, length-replicate}
 use Rattle.std.proofs.lemmas.List.Sums.{sum_by-set, get_or-le-sum_by, count_by-le-length}
 use Rattle.std.proofs.lemmas.Option.{none-some, same_Some}
 use Rattle.pp_vault.specs.Holding.{placed}
@@ -42,6 +42,12 @@ same_untold one other e = same_Some one other (ap want_in e)
 not_before : (b c : Bool) → (b ≡ true → c ≡ true) → c ≡ false → b ≡ false
 not_before true c h e = absurd (both_ways c e (h refl))
 not_before false c h e = refl
+
+-- where nobody sleeps in a place, nothing changes by nobody's sleeping there
+pub stays_none : (xs : List (Option Sleeper)) (worker : ℕ) (p : Option Sleeper) → p ≡ placed xs worker → is_some p ≡ false
+    → xs ≡ set xs worker None
+stays_none xs worker None e h = sym (ap (set xs worker) e ∙ set-get_or xs worker None)
+stays_none xs worker (Some x) e h = absurd (both_ways true h refl)
 
 -- ---- one place changes
 

@@ -97,10 +97,14 @@ impl Sleepers {
     ///
     /// It may have been told of what another one sleeps for. So call [`Sleepers::settle`] in the same hold of the lock,
     /// once it has asked.
+    #[inline(always)]
+    #[tactic(auto, using(crate::proofs::Places::stays_none))]
     pub fn rise(&mut self, worker: u32)
         ensures { self.new ≡ slice_set self.old worker None }
     {
-        self.put(worker, None);
+        if self.get(worker).is_some() {
+            self.put(worker, None);
+        }
     }
 
     /// Tells each worker whose wake-up would be lost, in the order of the workers, and answers the bells of those that it
@@ -108,6 +112,7 @@ impl Sleepers {
     ///
     /// It asks the vault about each one that wasn't told, and where it may go, looks for one that was told of the same
     /// thing. Where all were told, or nobody sleeps, it compares one word.
+    #[inline(always)]
     pub fn settle(&mut self, vault: &Vault) -> Wakes
         ensures settled { NoWakeUpIsLost vault.now self.new }
         ensures told { (w : ℕ) → is_told_anew self.old self.new w ≡ true → has_bell result (bell_of w) ≡ true }

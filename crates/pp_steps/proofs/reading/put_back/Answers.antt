@@ -18,8 +18,9 @@ returns-in-Err-clause-guards c =
 pub returns-in-Some-take : goal.returns-in-Some-take
 returns-in-Some-take c = record {
   some = tt;
+  step = tt;
   none = search rules;
-  stage = refl;
+  session = refl;
   guards =
       guard_back c.args.guards.now c.take.new.self c.put-in-Some-take.new.guards c.in-Some.slot
       (slot_by c.in-Some-take.guard) c.in-Some-take.guard (sym c.in-Some-take.is ∙ c.take.ensures.guard)

@@ -1,12 +1,11 @@
-use Rattle.std.proofs.Common.{◌≡◌, ℕ, Option, Some, true, false, refl, subst}
-use Rattle.std.specs.Prelude.{◌↔◌}
+use Rattle.std.proofs.Common.{◌≡◌, ℕ, true, false, refl, subst}
 use Rattle.pp_model.specs.Pool.{State}
 use Rattle.pp_vault.specs.Parts as vault
 use Rattle.pp_vault.specs.StandsFor.{StandsFor}
-use Rattle.pp_admission.specs.Queues.{NextIsAwake, next_in, is_asleep_at}
 use Rattle.pp_wants.specs.WakeUps.{NoWakeUpIsLost, IsForgotten}
 use Rattle.pp_wants.specs.Sleepers.{is_told_anew}
 use Rattle.pp_hall.specs.declared.told.Told.{Told}
+use Rattle.pp_hall.specs.Seatings.{room_of}
 use Rattle.pp_hall.specs.Waiters.{Parts, Settles}
 use Rattle.pp_hall.proofs.Settling.{settled_waiters, woken_is}
 use Rattle.pp_hall.proofs.waiters.Waiters.settle.Goals as goal
@@ -19,7 +18,7 @@ invariant_of-self c =
       is_flusher_asleep = c.self.inside.is_flusher_asleep;
       is_stopped = c.self.inside.is_stopped;
     } in
-    settled_waiters w c.self.invariant c.wake_next-next.new.self c.room.result c.wake_next-next.result
+    settled_waiters w c.self.invariant c.wake_next-next.new.queue (room_of c.args.seating.now) c.wake_next-next.result
     c.settle-workers.new.self c.flusher_after-flusher.result.1 c.wake_next-next.ensures.told c.wake_next-next.ensures.woken
     c.wake_next-next.ensures.unchanged c.flusher_after-flusher.ensures.only
 
@@ -28,7 +27,7 @@ returns-clause-awake c = record {
   workers =
       subst (λ (v : vault.Parts). NoWakeUpIsLost v c.settle-workers.new.self) c.vault.ensures
       c.settle-workers.ensures.settled;
-  next = subst (λ (r : ℕ). NextIsAwake c.wake_next-next.new.self r) c.room.ensures c.wake_next-next.ensures.awake;
+  next = c.wake_next-next.ensures.awake;
   flusher = c.flusher_after-flusher.ensures.rests;
 }
 
@@ -47,7 +46,7 @@ returns-clause-settles c =
       flusher = c.flusher_after-flusher.result.0;
     } in
     let after : Parts = record {
-      queue = c.wake_next-next.new.self;
+      queue = c.wake_next-next.new.queue;
       sleepers = c.settle-workers.new.self;
       is_flusher_asleep = c.flusher_after-flusher.result.1;
       is_stopped = c.self.inside.is_stopped;
@@ -60,12 +59,9 @@ returns-clause-settles c =
           subst (λ (v : vault.Parts). (n : ℕ) → is_told_anew c.self.inside.sleepers c.settle-workers.new.self n ≡ true
           → (s : State) → StandsFor v s → IsForgotten s c.self.inside.sleepers n) c.vault.ensures
           c.settle-workers.ensures.needed;
-      next =
-          subst (λ (r : ℕ). (t : ℕ) → (c.wake_next-next.result ≡ Some t)
-          ↔ ((next_in c.self.inside.queue r ≡ Some t) × (is_asleep_at c.self.inside.queue t ≡ true))) c.room.ensures
-          c.wake_next-next.ensures.told;
+      next = c.wake_next-next.ensures.told;
       queue =
-          woken_is c.self.inside.queue c.wake_next-next.new.self c.wake_next-next.result c.wake_next-next.ensures.woken
+          woken_is c.self.inside.queue c.wake_next-next.new.queue c.wake_next-next.result c.wake_next-next.ensures.woken
           c.wake_next-next.ensures.unchanged;
       flusher = c.flusher_after-flusher.ensures.told;
       wanted = c.flusher_after-flusher.ensures.wanted;
