@@ -4,3 +4,4 @@ pub mod Running
 pub mod Halls
 pub mod Copies
 pub mod Opening
+pub mod Checkpoints

@@ -3,12 +3,18 @@
 use pp_admission::Ticket;
 use pp_hall::{Hall, Told};
 use std::alloc::{AllocError, Global};
+use std::sync::atomic::{AtomicU64, Ordering};
 use std::sync::{Condvar, MutexGuard, Wait};
+use std::thread::yield_now;
 
 /// How many bells there are for those who wait to start. Tickets in the queue mostly follow one another, so while no
 /// more than so many wait each has a bell of its own. In a longer queue those share one whose tickets are so far apart:
 /// a ring wakes one in 32 of them, and all but one for nothing.
 const QUEUE_BELLS: u64 = 32;
+
+/// How often a thread that brought the flusher home yields at most, so that one who waits for it comes first: for about as
+/// long as a thread takes to wake. Else who flushes page after page would take it again each time before that.
+const COURTESIES: u32 = 1_000;
 
 /// The bells of a pool: conditions to sleep on. Each chair's thread has one of its own, so that a move wakes the few
 /// that it helps. A bell that is rung for nothing does no harm: who wakes asks again.
@@ -19,6 +25,8 @@ pub(crate) struct Bells {
     // At place n those of the tickets whose numbers leave n.
     queue: Vec<Condvar>,
     flusher: Condvar,
+    // How many threads wait for the flusher to come home. It changes under the lock alone.
+    awaiting: AtomicU64,
 }
 
 impl Bells {
@@ -28,6 +36,7 @@ impl Bells {
             chairs: new_bells(alloc, chairs as usize)?,
             queue: new_bells(alloc, QUEUE_BELLS as usize)?,
             flusher: Condvar::new(),
+            awaiting: AtomicU64::new(0),
         })
     }
 
@@ -103,6 +112,40 @@ impl Bells {
         hall: MutexGuard<'a, Hall<D>>,
     ) -> MutexGuard<'a, Hall<D>> {
         self.flusher.wait(rt, hall)
+    }
+
+    /// Sleeps until the flusher comes home, or somebody rings for it. The lock is let go meanwhile. Who calls it has found the
+    /// flusher away under this hold of the lock.
+    pub(crate) fn await_flusher<'a, D, R: Wait>(
+        &self,
+        rt: &R,
+        hall: MutexGuard<'a, Hall<D>>,
+    ) -> MutexGuard<'a, Hall<D>> {
+        self.awaiting.fetch_add(1, Ordering::SeqCst);
+        let hall = self.flusher.wait(rt, hall);
+        self.awaiting.fetch_sub(1, Ordering::SeqCst);
+        hall
+    }
+
+    /// Wakes those who wait for the flusher, which has come home, and yields for a while so that one of them may take it. It is
+    /// called once the lock is let go.
+    pub(crate) fn ring_home(&self) {
+        let waiting = self.awaiting.load(Ordering::SeqCst);
+        if waiting == 0 {
+            return;
+        }
+        self.flusher.notify_all();
+        for _ in 0..COURTESIES {
+            if self.awaiting.load(Ordering::SeqCst) < waiting {
+                return;
+            }
+            yield_now();
+        }
+    }
+
+    /// Whether somebody waits for the flusher to come home. Who has the lock is told exactly.
+    pub(crate) fn is_awaited(&self) -> bool {
+        self.awaiting.load(Ordering::SeqCst) != 0
     }
 }
 

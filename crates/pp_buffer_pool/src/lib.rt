@@ -5,7 +5,7 @@
 #![tactic(auto)]
 
 pub use copies::OnCopies;
-pub use error::{ExecuteError, OpenError};
+pub use error::{CheckpointError, ExecuteError, OpenError};
 pub use flushing::{Flush, FlusherEnd};
 pub use outcome::Outcome;
 pub use plan::PreparedPlan;
@@ -13,6 +13,7 @@ pub use pool::BufferPool;
 pub use pp_hall::{CloseError, Closed, Counts, Policy, Stats};
 
 mod bells;
+mod checkpointing;
 mod copies;
 mod ending;
 mod error;
@@ -22,5 +23,6 @@ mod opening;
 mod outcome;
 mod plan;
 mod pool;
+mod remaining;
 mod site;
 mod turning;

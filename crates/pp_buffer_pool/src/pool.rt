@@ -33,7 +33,8 @@ use std::sync::{Mutex, MutexGuard, Wait};
 /// | [`BufferPool::execute`] | the lock; its turn, with room and a chair; a page, a frame or a latch; the device and the work | with the lock held, for what its chair lacks: an image, room for the plan's events, and for pages that the work is lent |
 /// | [`BufferPool::execute_on_copies`] | the same | the same |
 /// | [`BufferPool::flush_once`] | the lock; the device | none |
-/// | [`BufferPool::run_flusher`] | the lock; the device; that pages are changed, or that the pool is stopped | none |
+/// | [`BufferPool::run_flusher`] | the lock; the device; that pages are changed, or that the pool is stopped; a flush of another thread | none |
+/// | [`BufferPool::checkpoint`] | the lock; the device; a flush of another thread; pages that are held, for a while | two lists of one page more than there are frames, with no lock held |
 /// | [`BufferPool::stop`], [`BufferPool::stats`], [`BufferPool::dirty_pages`] | the lock | none |
 /// | [`BufferPool::close`] | the device | none |
 /// | [`BufferPool::abandon`] | nothing | none |
@@ -151,7 +152,8 @@ impl<D: Device + Drop> BufferPool<D> {
     }
 
     /// Writes down pages that are newer than the device's, by rising numbers, each with its mark, as far as there are
-    /// places, all of one moment. Tells how many it wrote down. For a log's checkpoint record.
+    /// places, all of one moment. Tells how many it wrote down. For a log's checkpoint record; [`BufferPool::checkpoint`] has
+    /// such pages on the medium.
     #[tactic(auto, using(crate::proofs::Halls::dirty_in_some))]
     pub fn dirty_pages<R: Wait>(&self, rt: &R, into: &mut [(u32, u64)]) -> usize
         ensures few { result ≤ length into.old }

@@ -42,6 +42,7 @@ pub fn case<R: Files<File = File> + AllocGlobal + Print + Wait + Copy + Drop>(
     )?;
     match call {
         "BufferPool::execute" => executes(rt, &settings, ends),
+        "BufferPool::checkpoint" => checkpoints(rt, &settings, ends),
         "OnCopies::new" => {
             let mut copying = Copying {
                 alloc: rt.alloc(),
@@ -236,6 +237,84 @@ fn executes<R: AllocGlobal + Print + Wait + Copy + Drop>(
         work: _work,
     } = executing;
     let flushes = flushes_at_close(pool);
+    done?;
+    println!(rt; "flushes {flushes}")?;
+    Ok(())
+}
+
+/// A pool that has a changed page, and an end to be synced.
+struct Checkpointing<R: Wait> {
+    rt: R,
+    alloc: Global,
+    pool: BufferPool<SharedDevice<R>>,
+    end: SharedDevice<R>,
+}
+
+impl<R: Wait + Drop> Tried for Checkpointing<R> {
+    type Told = Answer;
+
+    fn stand(&self) -> Option<Answer> {
+        Some(self.told())
+    }
+
+    fn call(&mut self) -> Answer {
+        match self.pool.checkpoint(&self.rt, self.alloc, &mut self.end) {
+            Ok(()) => self.told(),
+            Err(error) => Answer::Failed(anyhow::Error::from(error)),
+        }
+    }
+}
+
+impl<R: Wait + Drop> Checkpointing<R> {
+    fn told(&self) -> Answer {
+        let stats = self.pool.stats(&self.rt);
+        Answer::Two(
+            "flushes",
+            stats.counts.flushes,
+            "dirty",
+            u64::from(stats.dirty),
+        )
+    }
+}
+
+/// A plan is run that changes a page, then comes a checkpoint, and then the pool is closed.
+fn checkpoints<R: AllocGlobal + Print + Wait + Copy + Drop>(
+    rt: &R,
+    settings: &Settings,
+    ends: Vec<SharedDevice<R>>,
+) -> anyhow::Result<()> {
+    let end = SharedDevice::over_memory(*rt, rt.alloc(), 1, 512, 1)?.pop();
+    let Some(end) = end else {
+        anyhow::bail!("there is no end");
+    };
+    let plan = accepted(rt.alloc(), settings, WRITE)?;
+    let pool = match BufferPool::open(rt.alloc(), settings, POLICY, ends) {
+        Ok(pool) => pool,
+        Err((error, _ends)) => return Err(anyhow::Error::from(error)),
+    };
+    let plan = match pool.prepare(rt, plan) {
+        Ok(plan) => plan,
+        Err((_plan, error)) => {
+            pool.abandon();
+            return Err(anyhow::Error::from(error));
+        }
+    };
+    let ran = pool.execute(rt, &plan, &mut Rounds::new(0, 0));
+    let mut checkpointing = Checkpointing {
+        rt: *rt,
+        alloc: rt.alloc(),
+        pool,
+        end,
+    };
+    let done = twice(rt, &mut checkpointing);
+    let Checkpointing {
+        rt: _rt,
+        alloc: _alloc,
+        pool,
+        end: _end,
+    } = checkpointing;
+    let flushes = flushes_at_close(pool);
+    ran?;
     done?;
     println!(rt; "flushes {flushes}")?;
     Ok(())

@@ -7,7 +7,7 @@ use std::sync::atomic::{AtomicU64, Ordering};
 use std::thread;
 use std::time::{Clock, Duration};
 
-/// The counts of a scene, and how often each page was changed.
+/// The counts of a scene, how often each page was changed, and what its device has of it.
 #[derive(Drop)]
 pub struct Board {
     pub scene: &'static Scene,
@@ -15,6 +15,9 @@ pub struct Board {
     pub scale: u32,
     counts: Vec<AtomicU64>,
     changes: Vec<AtomicU64>,
+    /// The mark of each page's last image that was written, and of the last one before a sync.
+    written: Vec<AtomicU64>,
+    stable: Vec<AtomicU64>,
 }
 
 /// So many counts of 0.
@@ -41,6 +44,17 @@ fn raise_at(counts: &[AtomicU64], place: usize) {
     }
 }
 
+/// Raises the count at this place to this number, if it is less.
+fn raise_to(counts: &[AtomicU64], place: usize, number: u64) {
+    if let Some(count) = counts.get(place) {
+        let _before = count.fetch_update(
+            Ordering::SeqCst,
+            Ordering::SeqCst,
+            |there| if there < number { Some(number) } else { None },
+        );
+    }
+}
+
 /// Sleeps for so many milliseconds.
 pub fn rest(rt: &impl Clock, milliseconds: u64) {
     let _slept = thread::sleep(rt, Duration::from_millis(milliseconds));
@@ -61,6 +75,8 @@ impl Board {
             scale,
             counts: zeros(rt, alloc, THINGS),
             changes: zeros(rt, alloc, PAGES as usize),
+            written: zeros(rt, alloc, PAGES as usize),
+            stable: zeros(rt, alloc, PAGES as usize),
         }
     }
 
@@ -82,6 +98,23 @@ impl Board {
     /// The page was changed once more.
     pub fn tell_change(&self, page: u32) {
         raise_at(&self.changes, page as usize);
+    }
+
+    /// An image of the page with this mark was written.
+    pub fn tell_written(&self, page: u32, mark: u64) {
+        raise_to(&self.written, page as usize, mark);
+    }
+
+    /// All that was written is on the medium.
+    pub fn settle(&self) {
+        for place in 0..self.written.len() {
+            raise_to(&self.stable, place, number_at(&self.written, place));
+        }
+    }
+
+    /// The mark of the page's image that a crash leaves at least.
+    pub fn stable(&self, page: u32) -> u64 {
+        number_at(&self.stable, page as usize)
     }
 
     /// How many looks a thread waits.

@@ -66,7 +66,8 @@ static FLUSHES: &[Scene] = &[
         dirty: Some(1),
         ..SAMPLE
     },
-    // One that waits for one writes it after each change that isn't made before.
+    // One that waits for one writes it after each change that isn't made before. While it writes, others are told that the
+    // flusher is away.
     Scene {
         name: "a_flusher_that_waits_for_one_writes_each_change",
         regions: ONE_LEAF,
@@ -75,12 +76,18 @@ static FLUSHES: &[Scene] = &[
             &[
                 (AT_ONCE, LEAF_0),
                 (Until(Thing::Flushed, 1), Act::FlushBusy),
+                (AT_ONCE, Act::Sign),
                 (AT_ONCE, LEAF_0),
                 (Until(Thing::Flushed, 2), LEAF_0),
                 (Until(Thing::Flushed, 3), LEAF_0),
                 (Until(Thing::Flushed, 4), Act::Stop),
             ],
         ],
+        cues: &[Cue {
+            at: Call::Flush,
+            page: 16,
+            until: Until(Thing::Sign, 1),
+        }],
         counts: &[(Thing::Changed, 4), (Thing::Flushed, 4)],
         ..SAMPLE
     },

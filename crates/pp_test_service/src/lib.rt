@@ -14,6 +14,8 @@
 #[cfg(test)]
 mod board;
 #[cfg(test)]
+mod checkpoints;
+#[cfg(test)]
 mod closing;
 #[cfg(test)]
 mod copying;
@@ -21,6 +23,8 @@ mod copying;
 mod flushing;
 #[cfg(test)]
 mod many;
+#[cfg(test)]
+mod medium;
 #[cfg(test)]
 mod opening;
 #[cfg(test)]

@@ -1,6 +1,6 @@
 //! A scene as data: a pool, what its threads do with it, and what is left of it.
 
-use pp_buffer_pool::{CloseError, ExecuteError, Flush, Outcome, Policy};
+use pp_buffer_pool::{CheckpointError, CloseError, ExecuteError, Flush, Outcome, Policy};
 use pp_test_plain::samples::REGIONS;
 
 /// What is counted while a scene goes on.
@@ -20,6 +20,8 @@ pub enum Thing {
     Written,
     /// Writings of the flusher that have begun.
     Flushed,
+    /// Syncs of checkpoints that have begun.
+    Synced,
     /// Calls of `execute` that have returned, and of them those whose plans were done, are gone, or weren't run.
     Ended,
     Done,
@@ -34,7 +36,7 @@ pub enum Thing {
 }
 
 /// How many things there are.
-pub const THINGS: usize = 14;
+pub const THINGS: usize = 15;
 
 /// So many of a thing have come.
 #[derive(Clone, Copy)]
@@ -77,6 +79,10 @@ pub enum Act {
     FlushSpent,
     /// Asks to flush so, and is told that another thread does.
     FlushBusy,
+    /// Has all dirty pages on the medium, and is answered so. After `Ok` they are there, as they were at the call or newer.
+    Checkpoint(Result<(), CheckpointError>),
+    /// The same so many times. A page may be held, or a writing fail.
+    Checkpoints(u32),
     /// Sees that these pages are dirty, by rising numbers, and no others.
     Dirty(&'static [u32]),
     /// Stops the pool.
@@ -127,6 +133,8 @@ pub enum Faults {
     Writings,
     /// These writings of the flusher's end fail, counted from 1 on.
     Flusher(&'static [u32]),
+    /// The sync with this number fails, counted from 1 on, and so do all behind it.
+    Syncs(u64),
     /// At each end a call fails now and then, and between two of these one lies.
     Often,
 }

@@ -1,10 +1,11 @@
 //! The threads of a scene.
 
 use crate::board::{Board, rest, same};
+use crate::medium::Medium;
 use crate::player::Player;
 use crate::scene::{Act, Answer, DONE, Deed, PAGE_BYTES, PAGES, Step, Thing, Until};
 use crate::watched::Pool;
-use pp_buffer_pool::{Flush, FlusherEnd, OnCopies, Outcome, PreparedPlan};
+use pp_buffer_pool::{CheckpointError, Flush, FlusherEnd, OnCopies, Outcome, PreparedPlan};
 use pp_settings::Settings;
 use pp_test_plain::accepted;
 use std::alloc::Global;
@@ -165,7 +166,9 @@ impl<'a, R: Abort + Clock + Wait + Drop> Stage<'a, R> {
             Act::Flush(flush) => self.flush(rt, flush),
             Act::FlushOn => self.flush_on(rt, FlusherEnd::Stopped),
             Act::FlushSpent => self.flush_on(rt, FlusherEnd::Spent),
-            Act::FlushBusy => self.flush_busy(rt),
+            Act::FlushBusy => self.flush(rt, Flush::Busy),
+            Act::Checkpoint(want) => self.checkpoint(rt, want),
+            Act::Checkpoints(times) => self.checkpoint_often(rt, times),
             Act::Dirty(pages) => self.are_dirty(rt, pages),
             Act::Stop => self.pool.stop(rt),
             Act::Sign => self.board.tell(Thing::Sign),
@@ -300,12 +303,45 @@ impl<'a, R: Abort + Clock + Wait + Drop> Stage<'a, R> {
         }
     }
 
-    /// Another thread flushes.
-    fn flush_busy(&self, rt: &R) {
-        self.flush(rt, Flush::Busy);
-        let end = self.pool.run_flusher(rt);
-        if end != FlusherEnd::Busy {
-            panic!(rt; "{}: a second flusher: {end:?}", self.board.scene.name);
+    /// Has all dirty pages on the medium. After `Ok` they are there, as they were before the call or newer.
+    fn checkpoint_once(&self, rt: &R) -> Result<(), CheckpointError> {
+        let mut dirty = [(0u32, 0u64); PAGES as usize];
+        let count = self.pool.dirty_pages(rt, dirty.as_mut_slice());
+        let mut medium = Medium::new(self.board);
+        let answer = self.pool.checkpoint(rt, self.alloc, &mut medium);
+        if answer.is_ok() {
+            for (page, mark) in dirty.iter().take(count) {
+                if self.board.stable(*page) < *mark {
+                    panic!(rt;
+                        "{}: page {page} is stable with {}, and not {mark}",
+                        self.board.scene.name,
+                        self.board.stable(*page)
+                    );
+                }
+            }
+        }
+        answer
+    }
+
+    /// The same, and is answered so.
+    fn checkpoint(&self, rt: &R, want: Result<(), CheckpointError>) {
+        let answer = self.checkpoint_once(rt);
+        if answer != want {
+            panic!(rt;
+                "{}: the checkpoint: {answer:?}, and not {want:?}",
+                self.board.scene.name
+            );
+        }
+    }
+
+    /// The same so many times.
+    fn checkpoint_often(&self, rt: &R, times: u32) {
+        for _time in 0..times.saturating_mul(self.board.scale) {
+            match self.checkpoint_once(rt) {
+                Ok(()) => {}
+                Err(CheckpointError::Held(_)) | Err(CheckpointError::WriteFault(_)) => {}
+                Err(error) => panic!(rt; "{}: the checkpoint: {error}", self.board.scene.name),
+            }
         }
     }
 

@@ -4,7 +4,7 @@
 use crate::board::Board;
 use crate::scene::{Call, Faults, Thing};
 use pp_buffer_pool::BufferPool;
-use pp_device::{Count, Device, Failing, Fault};
+use pp_device::{Count, Device, Failing, Fault, image};
 use pp_shared::SharedDevice;
 use std::marker::Model;
 use std::process::Abort;
@@ -110,8 +110,9 @@ impl<R: Abort + Wait + Clock> Device for Watched<R> {
             return Err(Fault::Write);
         }
         let answer = self.device.write(page, image);
-        if answer.is_err() {
-            self.failures.raise();
+        match answer {
+            Ok(()) => self.board.tell_written(page, image::head(image).1),
+            Err(_) => self.failures.raise(),
         }
         answer
     }
