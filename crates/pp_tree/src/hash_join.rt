@@ -6,8 +6,8 @@
 
 ghost use Rattle.std.specs.Prelude.{◌≡◌, ◌<◌, ◌≤◌, ◌+◌, length};
 
-use crate::node;
-use crate::node::Entry;
+use pp_btree::node;
+use pp_btree::node::Entry;
 use pp_device::image::HEAD;
 use pp_pool::{End, Kind, Work};
 use std::alloc::{AllocError, Global};

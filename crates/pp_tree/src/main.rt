@@ -1,4 +1,4 @@
-//! A B+ tree on pages, which four threads of the program use at once, and a hash join in a batch. Each query is a work
+//! The B+ tree of pp_btree, which four threads of the program use at once, and a hash join in a batch. Each query is a work
 //! of its own, which goes from plan to plan.
 //!
 //! `pp_tree KEYS FRAMES EVERY` adds so many keys, finds, changes and scans them on one pool of so many frames, 8 or
@@ -11,27 +11,17 @@
 #![tactic(auto)]
 
 mod batch;
-mod client;
 mod hash_join;
-mod node;
 mod passes;
-mod path;
-mod plans;
-mod query;
-mod regions;
-mod serve;
-mod shape;
-mod space;
-mod splits;
 mod tables;
 mod trial;
 
 use crate::batch::Stand;
 use crate::hash_join::HashJoin;
-use crate::plans::accepted;
-use crate::regions::PAGE_BYTES;
 use crate::trial::try_tree;
 use anyhow::Context;
+use pp_btree::accepted;
+use pp_btree::regions::PAGE_BYTES;
 use pp_cert::Accepted;
 use pp_settings::Settings;
 use pp_shared::SharedDevice;

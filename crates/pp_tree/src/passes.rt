@@ -1,7 +1,6 @@
 //! The passes over a tree: what is asked of each key, and what a plain map answers.
 
-use crate::client::Client;
-use crate::query::{Answer, Query};
+use pp_btree::{Answer, Client, Query};
 use std::alloc::{AllocError, Global};
 use std::collections::BTreeMap;
 

@@ -1,9 +1,9 @@
 //! The two tables of the join, and the same join by a plain loop.
 
 use crate::hash_join::{BUCKETS, LINES, Pairs};
-use crate::node;
-use crate::node::Entry;
-use crate::regions::PAGE_BYTES;
+use pp_btree::node;
+use pp_btree::node::Entry;
+use pp_btree::regions::PAGE_BYTES;
 use pp_device::image::HEAD;
 use pp_device::{Device, image};
 

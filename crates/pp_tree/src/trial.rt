@@ -1,12 +1,9 @@
 //! A tree on a device, and a plain map that it is compared with, through all passes.
 
-use crate::client::Client;
-use crate::node::Entry;
 use crate::passes::{Pass, clients_of, like_the_map};
-use crate::regions::{CHAIRS, FIRST_LEAF, MAP, PAGE_BYTES, PAGES, ROOT, settings_of};
-use crate::serve::{OnceLeft, Plans, answer_all};
-use crate::shape::shape_of;
-use crate::{node, space};
+use pp_btree::node::Entry;
+use pp_btree::regions::{CHAIRS, FIRST_LEAF, MAP, PAGE_BYTES, PAGES, ROOT, settings_of};
+use pp_btree::{Client, OnceLeft, Plans, answer_all, node, shape_of, space};
 use pp_buffer_pool::{BufferPool, Policy};
 use pp_device::image::HEAD;
 use pp_device::{Device, Failing, Trouble, image};

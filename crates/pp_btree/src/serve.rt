@@ -48,7 +48,7 @@ impl Plans {
     }
 
     /// The job's plan.
-    fn of(&self, job: Job) -> &PreparedPlan {
+    pub fn of(&self, job: Job) -> &PreparedPlan {
         match job {
             Job::Look => &self.look,
             Job::Write => &self.write,

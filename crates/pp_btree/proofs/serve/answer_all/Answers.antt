@@ -9,17 +9,17 @@ use Rattle.std.proofs.Crossing.{crosses}
 use Rattle.pp_buffer_pool.specs.contracts.pool.BufferPool.{the_row as pool_row}
 use Rattle.pp_buffer_pool.proofs.Sent.{pool_sync, closure_sync}
 use Rattle.std.specs.contracts.sync.Mutex.{the_row as mutex_row}
-use Rattle.pp_tree.specs.contracts.serve.Plans.{the_row as plans_row}
-use Rattle.pp_tree.specs.contracts.serve.Desk.{the_row as desk_row}
-use Rattle.pp_tree.specs.contracts.serve.OnceLeft.{the_row as once_row}
-use Rattle.pp_tree.proofs.serve.Plans.TheSendSync as plans
-use Rattle.pp_tree.proofs.serve.Desk.TheSendSync as desk
-use Rattle.pp_tree.proofs.serve.OnceLeft.TheSendSync as once
-use Rattle.pp_tree.proofs.serve.answer_all.Goals as goal
+use Rattle.pp_btree.specs.contracts.serve.Plans.{the_row as plans_row}
+use Rattle.pp_btree.specs.contracts.serve.Desk.{the_row as desk_row}
+use Rattle.pp_btree.specs.contracts.serve.OnceLeft.{the_row as once_row}
+use Rattle.pp_btree.proofs.serve.Plans.TheSendSync as plans
+use Rattle.pp_btree.proofs.serve.Desk.TheSendSync as desk
+use Rattle.pp_btree.proofs.serve.OnceLeft.TheSendSync as once
+use Rattle.pp_btree.proofs.serve.answer_all.Goals as goal
 
 -- the closure's name
 called : Sym
-called = 112 ∷ 112 ∷ 95 ∷ 116 ∷ 114 ∷ 101 ∷ 101 ∷ 58 ∷ 58 ∷ 115 ∷ 101 ∷ 114 ∷ 118 ∷ 101 ∷ 58 ∷ 58 ∷ 102 ∷ 110 ∷ 58 ∷ 58 ∷ 97 ∷ 110 ∷ 115 ∷ 119 ∷ 101 ∷ 114 ∷ 95 ∷ 97 ∷ 108 ∷ 108 ∷ 58 ∷ 58 ∷ 109 ∷ 97 ∷ 112 ∷ 95 ∷ 105 ∷ 110 ∷ 100 ∷ 105 ∷ 99 ∷ 101 ∷ 115 ∷ 43 ∷ 83 ∷ 101 ∷ 108 ∷ 102 ∷ []
+called = 112 ∷ 112 ∷ 95 ∷ 98 ∷ 116 ∷ 114 ∷ 101 ∷ 101 ∷ 58 ∷ 58 ∷ 115 ∷ 101 ∷ 114 ∷ 118 ∷ 101 ∷ 58 ∷ 58 ∷ 102 ∷ 110 ∷ 58 ∷ 58 ∷ 97 ∷ 110 ∷ 115 ∷ 119 ∷ 101 ∷ 114 ∷ 95 ∷ 97 ∷ 108 ∷ 108 ∷ 58 ∷ 58 ∷ 109 ∷ 97 ∷ 112 ∷ 95 ∷ 105 ∷ 110 ∷ 100 ∷ 105 ∷ 99 ∷ 101 ∷ 115 ∷ 43 ∷ 83 ∷ 101 ∷ 108 ∷ 102 ∷ []
 
 pub map_indices-requires-sync-F : goal.map_indices-requires-sync-F
 unfolding called
