@@ -14,17 +14,20 @@ use std::marker::Model;
 pub struct Leaf {
     medium: Vec<u8>,
     shown: Vec<u8>,
+    /// Whether it was written to since the two were the same, so that pages that are left alone cost nothing.
+    is_written: bool,
 }
 
 impl Model for Leaf {
-    ghost use Rattle.std.specs.Prelude.{◌≡◌, vec_len};
+    ghost use Rattle.std.specs.Prelude.{◌≡◌, vec_len, false};
     ghost use Rattle.pp_test_durable.specs.Leaves.{Image};
 
     ghost Value = { Image };
 
     ghost view = { λ l. record { medium = l.medium.items; shown = l.shown.items } };
 
-    ghost invariant = { λ l. vec_len l.medium ≡ vec_len l.shown };
+    ghost invariant = { λ l. (vec_len l.medium ≡ vec_len l.shown)
+        × (l.is_written ≡ false → l.medium.items ≡ l.shown.items) };
 }
 
 /// The image of a page to which nothing was written.
@@ -60,7 +63,11 @@ impl Leaf {
     {
         let medium = blank(alloc, page, page_bytes)?;
         let shown = blank(alloc, page, page_bytes)?;
-        Ok(Leaf { medium, shown })
+        Ok(Leaf {
+            medium,
+            shown,
+            is_written: false,
+        })
     }
 
     /// Copies what is shown into the slice.
@@ -77,13 +84,17 @@ impl Leaf {
         ensures { self.new ≡ record self.old { shown = image.now } }
     {
         self.shown.copy_from_slice(image);
+        self.is_written = true;
     }
 
     /// Has on the medium what is shown.
     pub fn settle(&mut self)
         ensures { self.new ≡ settled self.old }
     {
-        self.medium.copy_from_slice(&self.shown);
+        if self.is_written {
+            self.medium.copy_from_slice(&self.shown);
+            self.is_written = false;
+        }
     }
 
     /// What was shown got to the medium from one place to another, and then the power failed.
@@ -91,7 +102,10 @@ impl Leaf {
         requires { to ≤ length self.old.shown }
         ensures { IsCrashed self.old self.new }
     {
-        tear(&mut self.medium, &self.shown, from, to);
-        self.shown.copy_from_slice(&self.medium);
+        if self.is_written {
+            tear(&mut self.medium, &self.shown, from, to);
+            self.shown.copy_from_slice(&self.medium);
+            self.is_written = false;
+        }
     }
 }
